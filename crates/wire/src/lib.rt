@@ -1,0 +1,6 @@
+// The octets of a message that stay clear: first octet, counter and Session ID.
+
+
+
+pub mod number;
+
