@@ -1,6 +1,4 @@
 // The octets of a message that stay clear: first octet, counter and Session ID.
-
-
-
+pub mod id;
 pub mod number;
-
+pub mod parties;
