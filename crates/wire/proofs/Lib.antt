@@ -1,2 +1,4 @@
 pub mod Numbers
 pub mod Ids
+pub mod Pieces
+pub mod Fronts

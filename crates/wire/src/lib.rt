@@ -1,4 +1,5 @@
 // The octets of a message that stay clear: first octet, counter and Session ID.
+pub mod front;
 pub mod id;
 pub mod number;
 pub mod parties;
