@@ -2,3 +2,4 @@ pub mod Numbers
 pub mod Ids
 pub mod Pieces
 pub mod Fronts
+pub mod Readings

@@ -1,5 +1,5 @@
 -- Numbers and their octets, at every width. Assumes nothing.
-use mathlib.Core.Path.{_≡_, refl, sym, ap, _∙_}
+use mathlib.Core.Path.{_≡_, refl, sym, ap, subst, _∙_}
 use mathlib.Core.Logic.{_⊎_, inl, inr}
 use mathlib.Core.List.{List, [], _∷_, _++_}
 use Prim.Native.Nat.{ℕ, zero, suc, _+_, _-_, _*_, _/_, _%_, _^_, _<_, _≤_}
@@ -95,3 +95,42 @@ width-fewest c h = elim (leb-tells (suc c) (2 ^ 8)) [
     ]
   ]
 ]
+
+-- how large a number is by its octets
+number-from : (k a : ℕ) (xs : List ℕ) → 2 ^ (8 * k) ≤ a → 2 ^ (8 * (k + length xs)) ≤ numberAfter 256 a xs
+number-from k a [] h = let z : 8 * (k + 0) ≡ 8 * k = omega arith in rw z h
+number-from k a (x ∷ xs) h =
+    let p = pow-more k in
+    let r = number-from (k + 1) (a * 256 + x) xs (omega arith) in
+    let e : k + 1 + length xs ≡ k + suc (length xs) = omega arith in
+    rw e at r
+
+number-below : (k a : ℕ) (xs : List ℕ) → Under 256 xs → a < 2 ^ (8 * k) → numberAfter 256 a xs < 2 ^ (8 * (k + length xs))
+number-below k a [] u h = let z : 8 * (k + 0) ≡ 8 * k = omega arith in rw z h
+number-below k a (x ∷ xs) u h =
+    let p = pow-more k in
+    let r = number-below (k + 1) (a * 256 + x) xs (u .1) (omega (arith, u .0)) in
+    let e : k + 1 + length xs ≡ k + suc (length xs) = omega arith in
+    rw e at r
+
+pub number-holds : (xs : List ℕ) → Under 256 xs → number 256 xs < 2 ^ (8 * length xs)
+number-holds xs u =
+    let r = number-below 0 0 xs u (omega arith) in
+    let e : 0 + length xs ≡ length xs = omega arith in
+    rw e at r
+
+-- octets that do not begin with 00 are the fewest of their number
+pub width-number : (x : ℕ) (xs : List ℕ) → Under 256 (x ∷ xs) → 1 ≤ x → length (x ∷ xs) ≤ 4 → widthOf (number 256 (x ∷ xs)) ≡ length (x ∷ xs)
+width-number x xs u some short =
+    let c = number 256 (x ∷ xs) in
+    let n = length xs in
+    let above : c < 2 ^ (8 * suc n) = number-holds (x ∷ xs) u in
+    let z : 0 + n ≡ n = omega arith in
+    let o : 0 * 256 + x ≡ x = omega arith in
+    let low : 2 ^ (8 * n) ≤ numberAfter 256 x xs = rw z at (number-from 0 x xs (omega arith)) in
+    let below : 2 ^ (8 * n) ≤ c = subst (λ a. 2 ^ (8 * n) ≤ numberAfter 256 a xs) (sym o) low in
+    let top : 2 ^ (8 * suc n) ≤ 2 ^ 32 = pow-mono (let q : 8 * suc n ≤ 32 = omega arith in q) in
+    let fewest = width-fewest c (omega arith) in
+    let most = fewest .least (suc n) (omega arith) above in
+    let least = more-than n c (widthOf c) below (fewest .holds) in
+    omega arith

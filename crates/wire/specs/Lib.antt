@@ -3,3 +3,4 @@ pub mod Octets
 pub mod Parties
 pub mod Ids
 pub mod Fronts
+pub mod FrontLaws

@@ -10,18 +10,18 @@ ghost use Rattle.wire.specs.Limits.{longestId};
 ghost use Rattle.wire.specs.Octets.{widthOf};
 use crate::id::IdLength;
 use crate::id::SessionId;
+use crate::id::SessionIdDebug;
+use crate::id::SessionIdPartialEq;
 use crate::id::id_length;
 use crate::number::WIDEST;
 use crate::number::read_number;
 use crate::number::width;
 use crate::number::write_number;
 use crate::parties::Plane;
-use refusal::Fault;
-use refusal::Refusal;
-use crate::id::SessionIdDebug;
-use crate::id::SessionIdPartialEq;
 use crate::parties::PlaneDebug;
 use crate::parties::PlanePartialEq;
+use refusal::Fault;
+use refusal::Refusal;
 
 // The octets of the longest message.
 pub const LONGEST_MESSAGE: usize = 2048;
