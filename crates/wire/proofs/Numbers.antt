@@ -14,6 +14,7 @@ use Rattle.std.proofs.shelf.Digits.{number-push}
 use Rattle.std.proofs.shelf.Lists.{append-assoc, append-nil, getD-append-left, getD-at, length-push}
 use Rattle.std.proofs.shelf.Tests.{cases-lt}
 use Rattle.std.proofs.shelf.Ways.{leb-tells}
+use Rattle.wire.specs.Limits.{widest}
 use Rattle.wire.specs.Octets.{octets, Fewest, widthOf}
 
 -- one octet more holds 256 times as much
@@ -78,7 +79,7 @@ fewest-from c n h below = record {
 }
 
 -- one octet more of a number below the widest
-pub room : (i c x : ℕ) → i < 4 → c < 2 ^ (8 * i) → x < 256 → (c * 256 + x < 2 ^ 32) × (c * 256 + x < 2 ^ (8 * (i + 1)))
+pub room : (i c x : ℕ) → i < widest → c < 2 ^ (8 * i) → x < 256 → (c * 256 + x < 2 ^ 32) × (c * 256 + x < 2 ^ (8 * (i + 1)))
 room i c x h l b =
     let p : 2 ^ (8 * i) ≤ 2 ^ 24 = pow-mono (let q : 8 * i ≤ 24 = omega arith in q) in
     let m = pow-more i in
@@ -120,7 +121,7 @@ number-holds xs u =
     rw e at r
 
 -- octets that do not begin with 00 are the fewest of their number
-pub width-number : (x : ℕ) (xs : List ℕ) → Under 256 (x ∷ xs) → 1 ≤ x → length (x ∷ xs) ≤ 4 → widthOf (number 256 (x ∷ xs)) ≡ length (x ∷ xs)
+pub width-number : (x : ℕ) (xs : List ℕ) → Under 256 (x ∷ xs) → 1 ≤ x → length (x ∷ xs) ≤ widest → widthOf (number 256 (x ∷ xs)) ≡ length (x ∷ xs)
 width-number x xs u some short =
     let c = number 256 (x ∷ xs) in
     let n = length xs in

@@ -213,7 +213,7 @@ back h rest writable fits size =
     let lc = length-octets w (h .counter) in
     let ln = length-octets (widthOf (h .id .number)) (h .id .number) in
     let fewest = width-fewest (h .counter) fits in
-    let short = fewest .least 4 (omega arith) (omega arith) in
+    let short = fewest .least longestCounter (omega arith) (omega arith) in
     let f : Front = record { header = h; from = 1 + length counter; to = 1 + length counter + length name } in
     let begins : Begins f (front h counter ++ rest) = record {
       writable = writable;

@@ -6,14 +6,13 @@ ghost use lib.ListN.{length, drop};
 ghost use Rattle.std.specs.Vec.{made};
 ghost use Rattle.wire.specs.Fronts.{planeOf, firstOctet, front, frontLength, counterOctets, idEnd, frontRead, Inside};
 ghost use Rattle.wire.specs.Ids.{idLength};
-ghost use Rattle.wire.specs.Limits.{longestId};
+ghost use Rattle.wire.specs.Limits.{longestCounter, longestId};
 ghost use Rattle.wire.specs.Octets.{widthOf};
 use crate::id::IdLength;
 use crate::id::SessionId;
 use crate::id::SessionIdDebug;
 use crate::id::SessionIdPartialEq;
 use crate::id::id_length;
-use crate::number::WIDEST;
 use crate::number::read_number;
 use crate::number::width;
 use crate::number::write_number;
@@ -25,6 +24,9 @@ use refusal::Refusal;
 
 // The octets of the longest message.
 pub const LONGEST_MESSAGE: usize = 2048;
+
+// The octets of the longest counter.
+pub const LONGEST_COUNTER: usize = 4;
 
 // What the front of a message says.
 #[derive(Clone, Copy, PartialEq, Eq, Debug)]
@@ -60,7 +62,7 @@ impl Header {
     // How many octets the front takes.
     pub fn length(self) -> usize
         ensures value { λ r. ⌜ r ≡ frontLength self ⌝ }
-        ensures bound { λ r. ⌜ (3 ≤ r) × (r ≤ 9) ⌝ }
+        ensures bound { λ r. ⌜ (3 ≤ r) × (r ≤ 1 + longestCounter + longestId) ⌝ }
     {
         1 + width(self.counter) + self.id.width()
     }
@@ -120,7 +122,7 @@ pub fn read_front(message: &[u8]) -> Result<Front, Fault>
         return Err(Fault::new(Refusal::ReservedBitSet, 0));
     }
     let n = (first % 8) as usize;
-    if n < 1 || n > WIDEST {
+    if n < 1 || n > LONGEST_COUNTER {
         return Err(Fault::new(Refusal::CounterLength, 0));
     }
     let from = 1 + n;

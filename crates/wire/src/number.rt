@@ -3,16 +3,14 @@ ghost use mathlib.Core.Path.{_≡_};
 ghost use Prim.Native.Nat.{_≤_};
 ghost use lib.ListN.{length};
 ghost use Rattle.std.specs.shelf.Digits.{number};
+ghost use Rattle.wire.specs.Limits.{widest};
 ghost use Rattle.wire.specs.Octets.{octets, widthOf, Fewest};
-
-// The most octets that a number takes.
-pub const WIDEST: usize = 4;
 
 // The fewest octets that hold a number, at least one.
 pub fn width(c: u32) -> usize
     ensures value { λ r. ⌜ r ≡ widthOf c ⌝ }
     ensures fewest { λ r. ⌜ Fewest c r ⌝ }
-    ensures bound { λ r. ⌜ (1 ≤ r) × (r ≤ 4) ⌝ }
+    ensures bound { λ r. ⌜ (1 ≤ r) × (r ≤ widest) ⌝ }
 {
     if c <= 0xFF {
         1
@@ -27,7 +25,7 @@ pub fn width(c: u32) -> usize
 
 // Fills `out` with the last octets of a number.
 pub fn write_number(c: u32, out: &mut [u8])
-    requires { ⌜ length (now out) ≤ 4 ⌝ }
+    requires { ⌜ length (now out) ≤ widest ⌝ }
     ensures { λ _. ⌜ now (out .exit) ≡ octets (length (now (out .entry))) c ⌝ }
 {
     let n = out.len();
@@ -36,9 +34,9 @@ pub fn write_number(c: u32, out: &mut [u8])
     }
 }
 
-// The number that at most four octets write; the first of them may be 0.
+// The number that at most as many octets write as a number has; the first of them may be 0.
 pub fn read_number(from: &[u8]) -> u32
-    requires { ⌜ length (now from) ≤ 4 ⌝ }
+    requires { ⌜ length (now from) ≤ widest ⌝ }
     ensures { λ r. ⌜ r ≡ number 256 (now (from .entry)) ⌝ }
 {
     let mut c = 0u32;
