@@ -10,7 +10,7 @@ use lib.ListN.{length, getD, set, take, drop, length-append, length-replicate, r
 use Rattle.std.proofs.shelf.Lists.{take-all, drop-all, append-nil}
 use Rattle.suite.specs.Ciphers.{enciphered, padded, longestTag}
 
-xor-twice : (x y : ℕ) → bitXor (bitXor x y) y ≡ x
+pub xor-twice : (x y : ℕ) → bitXor (bitXor x y) y ≡ x
 xor-twice x y = xor-assoc x y y ∙ ap (bitXor x) (xor-self y) ∙ xor-zero-r x
 
 -- enciphering again deciphers

@@ -1,0 +1,5 @@
+pub mod Formats
+pub mod Layouts
+pub mod Messages
+pub mod Seals
+pub mod Opens

@@ -1,0 +1,5 @@
+// A message sealed and opened in the caller's buffer, with any suite.
+pub mod format;
+pub mod layout;
+pub mod open;
+pub mod seal;
