@@ -1,3 +1,5 @@
 pub mod Compares
 pub mod Clears
 pub mod Writes
+pub mod Openings
+pub mod Acceptances

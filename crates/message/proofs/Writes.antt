@@ -30,7 +30,7 @@ length-front h counter = ap suc (length-append counter (idOctets (h .id))) ∙ o
 pub length-body : (lead : ℕ) (content : List ℕ) → length (bodyOf lead content) ≡ lead + length content
 length-body lead content = length-append (octets lead (length content)) content ∙ ap (λ k. k + length content) (length-octets lead (length content))
 
-front-planned : (h : Header) → length (front h (counterOctets (h .counter))) ≡ frontLength h
+pub front-planned : (h : Header) → length (front h (counterOctets (h .counter))) ≡ frontLength h
 front-planned h =
     let a = length-front h (counterOctets (h .counter)) in
     let b = length-octets (widthOf (h .counter)) (h .counter) in

@@ -3,3 +3,4 @@ pub mod Layouts
 pub mod Messages
 pub mod Seals
 pub mod Opens
+pub mod MessageLaws

@@ -1,5 +1,6 @@
 // A message sealed and opened in the caller's buffer, with any suite.
 pub mod format;
+pub mod laws;
 pub mod layout;
 pub mod open;
 pub mod seal;
