@@ -105,19 +105,17 @@ passed stream tag t p m o answer =
     let h = f .header in
     let tagged = tag (p .keys) (inputsOf p h) in
     let clear = cleared (stream (p .keys) (inputsOf p h)) (f .to) m in
-    let says : Layout → Result Opened Fault = λ v. Ok (openedAs h v) in
-    let tests : Layout → Result Opened Fault = λ w. andThen (checked tagged w clear) says in
+    let says : Layout → Unit {0} → Result Opened Fault = λ w _. Ok (openedAs h w) in
+    let tests : Layout → Result Opened Fault = λ w. andThen (checked tagged w clear) (says w) in
     let a3 = andThen-went (located (p .format) f (length m)) tests o (a2 .2) in
     let w = a3 .0 in
-    let a4 = andThen-went (checked tagged w clear) says o (a3 .2) in
-    let v = a4 .0 in
+    let a4 = andThen-went (checked tagged w clear) (says w) o (a3 .2) in
     let at = readLayout (p .format) f (length m) in
     let a5 = need-held (leb (f .to + leastOf (p .format) (h .plane) + k) (length m)) (faultAt EndsInBody (length m)) (Ok at) w (a3 .1) in
-    let a6 = need-held (tagMatches tagged w clear) (faultAt TagDiffers (w .tag)) (need (lengthMatches w clear) (faultAt DataLengthDiffers (w .to)) (Ok w)) v (a4 .1) in
-    let a7 = need-held (lengthMatches w clear) (faultAt DataLengthDiffers (w .to)) (Ok w) v (a6 .1) in
+    let a6 = need-held (tagMatches tagged w clear) (faultAt TagDiffers (w .tag)) (need (lengthMatches w clear) (faultAt DataLengthDiffers (w .to)) (Ok tt)) (a4 .0) (a4 .1) in
+    let a7 = need-held (lengthMatches w clear) (faultAt DataLengthDiffers (w .to)) (Ok tt) (a4 .0) (a6 .1) in
     let w-is : at ≡ w = cc (a5 .1) in
-    let v-is : w ≡ v = cc (a7 .1) in
-    let o-is : openedAs h v ≡ o = cc (a4 .2) in
+    let o-is : openedAs h w ≡ o = cc (a4 .2) in
     record {
       fits = leb-true k t (a1 .0);
       front = f;
@@ -125,7 +123,7 @@ passed stream tag t p m o answer =
       room = leb-true (f .to + leastOf (p .format) (h .plane) + k) (length m) (a5 .0);
       tagged = ap (λ (x : Layout). tagMatches tagged x clear) w-is ∙ a6 .0;
       counted = ap (λ (x : Layout). lengthMatches x clear) w-is ∙ a7 .0;
-      is = ap (openedAs h) (w-is ∙ v-is) ∙ o-is;
+      is = ap (openedAs h) w-is ∙ o-is;
     }
 
 only : (stream : Keystream) (tag : Tag) (t : ℕ) (p : Protection) (m : List ℕ) (o : Opened) → ((place : ℕ) (h : Header) → stream (p .keys) (inputsOf p h) place < 256)

@@ -54,7 +54,7 @@ length-cleared f to m =
 -- a message that was deciphered and refused is enciphered again
 pub put-back : (stream : Keystream) (tag : Tag) (p : Protection) (f : Front) (inputs : Inputs) (w : Layout) (m clear after : List ℕ) (e : Fault) → f .to ≤ length m
     → inputs ≡ inputsOf p (f .header) → _≡_ {A = Result Layout Fault} (Ok w) (located (p .format) f (length m)) → clear ≡ cleared (stream (p .keys) inputs) (f .to) m
-    → _≡_ {A = Result Layout Fault} (Err e) (checked (tag (p .keys) inputs) w clear) → after ≡ cleared (stream (p .keys) inputs) (f .to) clear
+    → _≡_ {A = Result (Unit {0}) Fault} (Err e) (checked (tag (p .keys) inputs) w clear) → after ≡ cleared (stream (p .keys) inputs) (f .to) clear
     → (_≡_ {A = Result Opened Fault} (Err e) (bodyAnswer stream tag p f m)) × (after ≡ bodyBuffer stream tag p f m)
 put-back stream tag p f inputs w m clear after e inside inputs-is w-is clear-is refused after-is =
     let i = inputsOf p (f .header) in

@@ -3,3 +3,4 @@ pub mod Clears
 pub mod Writes
 pub mod Openings
 pub mod Acceptances
+pub mod Returns

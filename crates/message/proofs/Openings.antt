@@ -155,7 +155,7 @@ pub opened-by : (stream : Keystream) (tag : Tag) (t : ℕ) (p : Protection) (m c
     → (openAnswer stream tag t p m ≡ Ok (openedAs (f .header) w)) × (openBuffer stream tag t p m ≡ clear)
 opened-by stream tag t p m clear f w fits read at clear-is tag-right length-right =
     let t0 : leb (tagOctets (p .format .tag)) t ≡ true = le-leb (tagOctets (p .format .tag)) t fits in
-    let passes : checked (tag (p .keys) (inputsOf p (f .header))) w clear ≡ Ok w = rw (tag-right, length-right) in
+    let passes : checked (tag (p .keys) (inputsOf p (f .header))) w clear ≡ Ok tt = rw (tag-right, length-right) in
     let body : bodyAnswer stream tag p f m ≡ Ok (openedAs (f .header) w) = rw (at, clear-is, passes) in
     (rw (t0, read) body, rw (t0, read) (rw (at, clear-is, passes)))
 
@@ -235,6 +235,16 @@ sealed-tells t p h len room n answer =
       size = omega (arith, leb-true total longestMessage (q .1));
     }
 
+-- a sealed message has the length that was answered, and what stood behind it stays
+pub sealed-buffer : (stream : Keystream) (tag : Tag) (t : ℕ) (p : Protection) (h : Header) (content out : List ℕ) (n : ℕ) → sealAnswer t p h (length content) (length out) ≡ Ok n
+    → (sealBuffer stream tag t p h content out ≡ message stream tag p h (counterOctets (h .counter)) content ++ drop n out)
+    × (length (message stream tag p h (counterOctets (h .counter)) content) ≡ n)
+sealed-buffer stream tag t p h content out n answer =
+    let s = sealed-tells t p h (length content) (length out) n answer in
+    let lc = length-octets (widthOf (h .counter)) (h .counter) in
+    let li = length-octets (widthOf (h .id .number)) (h .id .number) in
+    (rw answer, length-message stream tag p h (counterOctets (h .counter)) content ∙ omega (arith, s .is))
+
 pub back : (stream : Keystream) (tag : Tag) (t : ℕ) (p : Protection) (h : Header) (content out : List ℕ) (n : ℕ) → h .counter < 2 ^ 32 → h .id .number < 2 ^ 32
     → sealAnswer t p h (length content) (length out) ≡ Ok n
     → (length (take n (sealBuffer stream tag t p h content out)) ≡ n)
@@ -245,11 +255,9 @@ back stream tag t p h content out n counter-fits id-fits answer =
     let counter = counterOctets (h .counter) in
     let whole = message stream tag p h counter content in
     let lc = length-octets (widthOf (h .counter)) (h .counter) in
-    let li = length-octets (widthOf (h .id .number)) (h .id .number) in
-    let lm : length whole ≡ n = length-message stream tag p h counter content ∙ omega (arith, s .is) in
-    let buffer : sealBuffer stream tag t p h content out ≡ whole ++ drop n out = rw answer in
+    let buffer = sealed-buffer stream tag t p h content out n answer in
     let m = take n (sealBuffer stream tag t p h content out) in
-    let is : m ≡ whole = ap (take n) buffer ∙ take-at whole (drop n out) n lm in
+    let is : m ≡ whole = ap (take n) (buffer .0) ∙ take-at whole (drop n out) n (buffer .1) in
     let fewest = width-fewest (h .counter) counter-fits in
     let carries : Carries stream tag p h content m = record {
       writable = record { key = omega (arith, s .key .1); id = s .id; number = id-fits };
@@ -263,5 +271,5 @@ back stream tag t p h content out n counter-fits id-fits answer =
       };
       is = is;
     } in
-    let lm2 : length m ≡ n = ap length is ∙ lm in
-    (lm2, carries, each stream tag t p h content m (s .tag) (omega (arith, s .size)) carries)
+    let lm : length m ≡ n = ap length is ∙ buffer .1 in
+    (lm, carries, each stream tag t p h content m (s .tag) (omega (arith, s .size)) carries)

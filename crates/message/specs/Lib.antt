@@ -4,3 +4,4 @@ pub mod Messages
 pub mod Seals
 pub mod Opens
 pub mod MessageLaws
+pub mod Loopbacks

@@ -37,11 +37,11 @@ abbrev pub lengthMatches : Layout → List ℕ → Bool
 lengthMatches w m = eqb (w .content - w .to) 0 || eqb (number 256 (between (w .to) (w .content) m)) (w .tag - w .content)
 
 -- the two tests of a clear message
-abbrev pub checked : (List ℕ → List ℕ) → Layout → List ℕ → Result Layout Fault
+abbrev pub checked : (List ℕ → List ℕ) → Layout → List ℕ → Result (Unit {0}) Fault
 checked tag w m =
     need (tagMatches tag w m) (faultAt TagDiffers (w .tag))
     (need (lengthMatches w m) (faultAt DataLengthDiffers (w .to))
-    (Ok w))
+    (Ok tt))
 
 abbrev pub openedAs : Header → Layout → Opened
 openedAs h w = record { header = h; place = w .content; length = w .tag - w .content }
@@ -50,8 +50,8 @@ openedAs h w = record { header = h; place = w .content; length = w .tag - w .con
 abbrev pub bodyAnswer : Keystream → Tag → Protection → Front → List ℕ → Result Opened Fault
 bodyAnswer stream tag p f m =
     andThen (located (p .format) f (length m)) (λ w.
-    andThen (checked (tag (p .keys) (inputsOf p (f .header))) w (cleared (stream (p .keys) (inputsOf p (f .header))) (f .to) m)) (λ v.
-    Ok (openedAs (f .header) v)))
+    andThen (checked (tag (p .keys) (inputsOf p (f .header))) w (cleared (stream (p .keys) (inputsOf p (f .header))) (f .to) m)) (λ _.
+    Ok (openedAs (f .header) w)))
 
 -- the answer, for a suite whose tags have T octets
 abbrev pub openAnswer : Keystream → Tag → ℕ → Protection → List ℕ → Result Opened Fault

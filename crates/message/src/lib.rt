@@ -2,5 +2,6 @@
 pub mod format;
 pub mod laws;
 pub mod layout;
+pub mod loopback;
 pub mod open;
 pub mod seal;

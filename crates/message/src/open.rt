@@ -1,7 +1,8 @@
 // A message opened in place: deciphered, tested, and put back where a test fails.
 ghost use mathlib.Core.Path.{_≡_};
-ghost use Prim.Native.Nat.{_≤_};
+ghost use Prim.Native.Nat.{_+_, _≤_};
 ghost use lib.ListN.{length};
+ghost use Rattle.std.specs.Vec.{made};
 ghost use Rattle.std.specs.shelf.Text.{sameBytes};
 ghost use Rattle.message.specs.Formats.{inputsOf};
 ghost use Rattle.message.specs.Layouts.{Ordered};
@@ -72,7 +73,7 @@ fn check<C: Suite>(
     inputs: Inputs,
     w: Layout,
     message: &[u8],
-) -> Result<Layout, Fault>
+) -> Result<(), Fault>
     requires ordered { ⌜ Ordered w (length (now message)) ⌝ }
     ensures { λ r. ⌜ r ≡ checked (tagOf (now (suite .entry)) keys inputs) w (now (message .entry)) ⌝ }
 {
@@ -82,7 +83,7 @@ fn check<C: Suite>(
     if !length_matches(w, message) {
         return Err(Fault::new(Refusal::DataLengthDiffers, w.to));
     }
-    Ok(w)
+    Ok(())
 }
 
 // Opens a message whose front was read. A refused message is as it arrived.
@@ -95,12 +96,13 @@ pub fn open_body<C: Suite>(
     requires within { ⌜ Within front (length (now message)) ⌝ }
     ensures value { λ r. ⌜ r ≡ bodyAnswer (keystream (now (suite .entry))) (tagOf (now (suite .entry))) protection front (now (message .entry)) ⌝ }
     ensures after { λ _. ⌜ now (message .exit) ≡ bodyBuffer (keystream (now (suite .entry))) (tagOf (now (suite .entry))) protection front (now (message .entry)) ⌝ }
+    ensures inside { λ r. ⌜ made r (λ o. o .place + o .length ≤ length (now (message .entry))) ⌝ }
 {
     let w = protection.format.locate(front, message.len())?;
     let (keys, inputs) = (protection.keys, protection.inputs(front.header));
     decipher(suite, keys, inputs, front.to, message);
     match check(suite, keys, inputs, w, message) {
-        Ok(w) => Ok(Opened {
+        Ok(()) => Ok(Opened {
             header: front.header,
             place: w.content,
             length: w.tag - w.content,
@@ -120,6 +122,7 @@ pub fn open<C: Suite>(
 ) -> Result<Opened, Fault>
     ensures value { λ r. ⌜ r ≡ openAnswer (keystream (now (suite .entry))) (tagOf (now (suite .entry))) (size (now (suite .entry))) protection (now (message .entry)) ⌝ }
     ensures after { λ _. ⌜ now (message .exit) ≡ openBuffer (keystream (now (suite .entry))) (tagOf (now (suite .entry))) (size (now (suite .entry))) protection (now (message .entry)) ⌝ }
+    ensures inside { λ r. ⌜ made r (λ o. o .place + o .length ≤ length (now (message .entry))) ⌝ }
 {
     if protection.format.tag.octets() > suite.tag_length() {
         return Err(Fault::new(Refusal::OutOfRange, 0));

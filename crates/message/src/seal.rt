@@ -5,6 +5,7 @@ ghost use mathlib.Core.List.{_++_};
 ghost use Prim.Native.Nat.{_-_, _<_, _≤_};
 ghost use lib.ListN.{length, take, drop};
 ghost use Rattle.std.specs.Holes.{between};
+ghost use Rattle.std.specs.Vec.{made};
 ghost use Rattle.suite.specs.Ciphers.{enciphered, padded, longestTag};
 ghost use Rattle.wire.specs.Fronts.{front, counterOctets};
 ghost use Rattle.message.specs.Formats.{leadOf};
@@ -96,6 +97,7 @@ pub fn seal<C: Suite>(
 ) -> Result<usize, Fault>
     ensures value { λ r. ⌜ r ≡ sealAnswer (size (now (suite .entry))) protection header (length (now (content .entry))) (length (now (out .entry))) ⌝ }
     ensures after { λ _. ⌜ now (out .exit) ≡ sealBuffer (keystream (now (suite .entry))) (tagOf (now (suite .entry))) (size (now (suite .entry))) protection header (now (content .entry)) (now (out .entry)) ⌝ }
+    ensures within { λ r. ⌜ made r (λ n. n ≤ length (now (out .entry))) ⌝ }
 {
     if !in_range(suite.tag_length(), protection.format, header, content.len()) {
         return Err(Fault::new(Refusal::OutOfRange, 0));
