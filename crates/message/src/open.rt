@@ -17,11 +17,13 @@ use suite::Keyset;
 use suite::Suite;
 use wire::front::Front;
 use wire::front::Header;
+use wire::front::HeaderDebug;
+use wire::front::HeaderPartialEq;
 use wire::front::read_front;
 use wire::number::read_number;
 
 // What an accepted message says: its header, and where its content stands in clear.
-#[derive(Clone, Copy)]
+#[derive(Clone, Copy, PartialEq, Eq, Debug)]
 pub struct Opened {
     pub header: Header,
     pub place: usize,
