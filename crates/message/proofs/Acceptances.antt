@@ -35,8 +35,8 @@ use Rattle.wire.specs.FrontLaws.{Begins}
 use Rattle.wire.specs.Fronts.{front, frontRead}
 use Rattle.wire.specs.Ids.{idOctets}
 use Rattle.wire.specs.Limits.{longestMessage}
-use Rattle.wire.specs.Octets.{octets}
-use Rattle.wire.proofs.Numbers.{number-holds, octets-number}
+use Rattle.octets.specs.Octets.{octets}
+use Rattle.octets.proofs.Numbers.{number-holds, octets-number}
 use Rattle.wire.proofs.Readings as readings
 use Rattle.message.specs.declared.format.DataLength.{DataLength}
 use Rattle.message.specs.declared.format.DataLength.the-variants.{One, Two}

@@ -31,8 +31,8 @@ use Rattle.wire.specs.FrontLaws.{Writable, Counts, Begins}
 use Rattle.wire.specs.Fronts.{firstOctet, front, frontRead, counterOctets}
 use Rattle.wire.specs.Ids.{idOctets, isId}
 use Rattle.wire.specs.Limits.{longestCounter, longestMessage}
-use Rattle.wire.specs.Octets.{octets, widthOf}
-use Rattle.wire.proofs.Numbers.{length-octets, number-octets, width-fewest}
+use Rattle.octets.specs.Octets.{octets, widthOf}
+use Rattle.octets.proofs.Numbers.{length-octets, number-octets, width-fewest}
 use Rattle.wire.proofs.Readings as readings
 use Rattle.message.specs.declared.format.TagLength.{TagLength}
 use Rattle.message.specs.declared.format.TagLength.the-variants.{Four, Eight, Twelve, Sixteen}

@@ -14,9 +14,9 @@ use Rattle.suite.proofs.Ciphering.{length-padded}
 use Rattle.wire.specs.declared.front.Header.{Header}
 use Rattle.wire.specs.Fronts.{front, frontLength, counterOctets, firstOctet}
 use Rattle.wire.specs.Ids.{idOctets}
-use Rattle.wire.specs.Octets.{octets, widthOf}
-use Rattle.wire.proofs.Numbers.{length-octets}
-use Rattle.wire.proofs.Pieces.{piece-length, piece-written}
+use Rattle.octets.specs.Octets.{octets, widthOf}
+use Rattle.octets.proofs.Numbers.{length-octets}
+use Rattle.octets.proofs.Pieces.{piece-length, piece-written}
 use Rattle.message.specs.declared.format.Format.{Format}
 use Rattle.message.specs.declared.format.Protection.{Protection}
 use Rattle.message.specs.declared.layout.Layout.{Layout}

@@ -16,7 +16,7 @@ use Rattle.wire.specs.declared.front.Header.{Header}
 use Rattle.wire.specs.declared.front.Front.{Front}
 use Rattle.wire.specs.Fronts.{frontLength}
 use Rattle.wire.specs.Limits.{longestMessage}
-use Rattle.wire.specs.Octets.{widthOf}
+use Rattle.octets.specs.Octets.{widthOf}
 use Rattle.message.specs.declared.format.Format.{Format}
 use Rattle.message.specs.declared.layout.Layout.{Layout}
 use Rattle.message.specs.Formats.{tagOctets, dataOctets, leadOf, leastOf, longestLead}

@@ -8,7 +8,7 @@ use Rattle.suite.specs.Ciphers.{enciphered, padded}
 use Rattle.wire.specs.declared.front.Header.{Header}
 use Rattle.wire.specs.Fronts.{front}
 use Rattle.wire.specs.Ids.{idOctets}
-use Rattle.wire.specs.Octets.{octets}
+use Rattle.octets.specs.Octets.{octets}
 use Rattle.message.specs.declared.format.Protection.{Protection}
 use Rattle.message.specs.Formats.{tagOctets, leadOf, inputsOf}
 

@@ -4,12 +4,12 @@ ghost use Rattle.message.specs.Formats.{leastOf};
 ghost use Rattle.message.specs.Layouts.{dataFits, planned, located, LaidIn, OrderedIn};
 ghost use Rattle.wire.specs.Fronts.{Within};
 use crate::format::Format;
+use octets::width;
 use refusal::Fault;
 use refusal::Refusal;
 use wire::front::Front;
 use wire::front::Header;
 use wire::front::LONGEST_MESSAGE;
-use wire::number::width;
 use wire::parties::Plane;
 
 // The Session ID stands at `from`, the Data Length, if any, at `to`, the content at `content`, and the tag from `tag` to `end`.

@@ -10,6 +10,7 @@ ghost use Rattle.message.specs.Opens.{cleared, tagMatches, lengthMatches, chec
 ghost use Rattle.wire.specs.Fronts.{Within};
 use crate::format::Protection;
 use crate::layout::Layout;
+use octets::read_number;
 use refusal::Fault;
 use refusal::Refusal;
 use suite::Inputs;
@@ -20,7 +21,6 @@ use wire::front::Header;
 use wire::front::HeaderDebug;
 use wire::front::HeaderPartialEq;
 use wire::front::read_front;
-use wire::number::read_number;
 
 // What an accepted message says: its header, and where its content stands in clear.
 #[derive(Clone, Copy, PartialEq, Eq, Debug)]

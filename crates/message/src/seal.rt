@@ -15,13 +15,13 @@ ghost use Rattle.message.specs.Seals.{hasContent, inRange, sealAnswer, sealBuf
 use crate::format::Format;
 use crate::format::Protection;
 use crate::layout::Layout;
+use octets::write_number;
 use refusal::Fault;
 use refusal::Refusal;
 use suite::Inputs;
 use suite::Keyset;
 use suite::Suite;
 use wire::front::Header;
-use wire::number::write_number;
 use wire::parties::Plane;
 
 fn has_content(plane: Plane, len: usize) -> bool

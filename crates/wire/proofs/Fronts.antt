@@ -16,9 +16,9 @@ use Rattle.wire.specs.declared.front.Header.{Header}
 use Rattle.wire.specs.Fronts.{firstOctet, front, counterOctets, frontLength, idEnd}
 use Rattle.wire.specs.Ids.{idLength, idOctets}
 use Rattle.wire.specs.Limits.{longestId}
-use Rattle.wire.specs.Octets.{octets, widthOf}
-use Rattle.wire.proofs.Numbers.{length-octets}
-use Rattle.wire.proofs.Pieces.{first-written, piece-length, piece-written}
+use Rattle.octets.specs.Octets.{octets, widthOf}
+use Rattle.octets.proofs.Numbers.{length-octets}
+use Rattle.octets.proofs.Pieces.{first-written, piece-length, piece-written}
 
 -- the three writes of a header, where w and v are the widths of the counter and of the ID
 pub front-written : (h : Header) (w v x : ℕ) (out counter id : List ℕ) → w ≡ widthOf (h .counter) → v ≡ widthOf (h .id .number) → frontLength h ≤ length out

@@ -21,8 +21,8 @@ use Rattle.wire.specs.declared.id.IdLength.the-variants.{Is, Unfinished, TooLo
 use Rattle.wire.specs.declared.id.SessionId.{SessionId}
 use Rattle.wire.specs.Ids.{idLength, endsAt, isId, idOf, idGiven, idOctets}
 use Rattle.wire.specs.Limits.{longestId}
-use Rattle.wire.specs.Octets.{octets, widthOf}
-use Rattle.wire.proofs.Numbers.{length-octets, number-holds, octets-number, width-number}
+use Rattle.octets.specs.Octets.{octets, widthOf}
+use Rattle.octets.proofs.Numbers.{length-octets, number-holds, octets-number, width-number}
 
 -- no octet is left, and one more might have followed
 pub unfinished : (most i : ℕ) (l : List ℕ) → i < most → length l ≤ i → idLength (most - i) i (drop i l) ≡ Unfinished

@@ -1,5 +1,3 @@
-pub mod Numbers
 pub mod Ids
-pub mod Pieces
 pub mod Fronts
 pub mod Readings

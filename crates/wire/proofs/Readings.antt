@@ -33,9 +33,9 @@ use Rattle.wire.specs.FrontLaws.{Writable, Counts, Begins, Read-as-written}
 use Rattle.wire.specs.Fronts.{planeBit, planeOf, firstOctet, front, frontLength, frontOf, frontRead, fieldsRead, idEnd, counterOctets}
 use Rattle.wire.specs.Ids.{idLength, idOf, idOctets, isId}
 use Rattle.wire.specs.Limits.{longestMessage, longestId, longestCounter}
-use Rattle.wire.specs.Octets.{octets, widthOf}
+use Rattle.octets.specs.Octets.{octets, widthOf}
 use Rattle.wire.proofs.Ids.{id-before, id-found, id-octets, is-id-ends, is-id-from}
-use Rattle.wire.proofs.Numbers.{length-octets, number-octets, width-fewest}
+use Rattle.octets.proofs.Numbers.{length-octets, number-octets, width-fewest}
 
 -- what a first octet holds
 record Holds (x : ℕ) (plane : Plane) (key n : ℕ) : Type 0 where

@@ -21,7 +21,7 @@ use Rattle.wire.specs.declared.front.Header.{Header}
 use Rattle.wire.specs.declared.front.Front.{Front}
 use Rattle.wire.specs.Ids.{idLength, idOf, idOctets}
 use Rattle.wire.specs.Limits.{longestMessage, longestId, longestCounter}
-use Rattle.wire.specs.Octets.{octets, widthOf}
+use Rattle.octets.specs.Octets.{octets, widthOf}
 
 -- the plane bit, the highest of the first octet
 abbrev pub planeBit : Plane → ℕ

@@ -11,7 +11,7 @@ use Rattle.wire.specs.declared.id.SessionId.{SessionId}
 use Rattle.wire.specs.declared.id.IdLength.{IdLength}
 use Rattle.wire.specs.declared.id.IdLength.the-variants.{Is, Unfinished, TooLong}
 use Rattle.wire.specs.Limits.{longestId}
-use Rattle.wire.specs.Octets.{octets, widthOf}
+use Rattle.octets.specs.Octets.{octets, widthOf}
 
 -- where an ID ends: with its first octet whose top bit is clear; n octets have gone by, and at most `more` may follow
 abbrev pub idLength : ℕ → ℕ → List ℕ → IdLength

@@ -1,5 +1,4 @@
 pub mod Limits
-pub mod Octets
 pub mod Parties
 pub mod Ids
 pub mod Fronts

@@ -12,7 +12,3 @@ longestId = 4
 -- the octets of the longest counter
 abbrev pub longestCounter : ℕ
 longestCounter = 4
-
--- the octets of the widest number that is read or written, one on 32 bits
-abbrev pub widest : ℕ
-widest = 4

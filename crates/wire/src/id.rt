@@ -5,10 +5,10 @@ ghost use Prim.Native.Nat.{_≤_};
 ghost use lib.ListN.{length};
 ghost use Rattle.wire.specs.Ids.{idLength, IdInside, isId, idOf, idGiven, idOctets, sameId};
 ghost use Rattle.wire.specs.Limits.{longestId};
-ghost use Rattle.wire.specs.Octets.{widthOf};
-use crate::number::read_number;
-use crate::number::width;
-use crate::number::write_number;
+ghost use Rattle.octets.specs.Octets.{widthOf};
+use octets::read_number;
+use octets::width;
+use octets::write_number;
 
 // The octets of the longest ID.
 pub const LONGEST_ID: usize = 4;

@@ -2,5 +2,4 @@
 pub mod front;
 pub mod id;
 pub mod laws;
-pub mod number;
 pub mod parties;

@@ -5,8 +5,8 @@ use lib.ListN.{getD}
 use lib.Seq.{take-all}
 use Rattle.std.specs.shelf.Digits.{number}
 use Rattle.std.proofs.shelf.Digits.{number-more}
-use Rattle.wire.proofs.Numbers.{room}
-use Rattle.wire.proofs.number.read_number.Needs as need
+use Rattle.octets.proofs.Numbers.{room}
+use Rattle.octets.proofs.read_number.Needs as need
 
 pub mul-c : need.mul-c
 mul-c c = let r = room (c .loop-x .x-index) (c .loop-x .c) 0 (omega arith) (c .loop-x .inv .1) (omega arith) in record { fits = omega arith }

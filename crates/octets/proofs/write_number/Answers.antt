@@ -4,9 +4,9 @@ use native.Mathlib.Omega.{arith}
 use lib.ListN.{length}
 use Rattle.std.proofs.shelf.Edits.{paste-none, paste-more, paste-all}
 use Rattle.std.proofs.shelf.Lists.{append-nil, drop-all}
-use Rattle.wire.specs.Octets.{octets}
-use Rattle.wire.proofs.Numbers.{length-octets, getD-octets}
-use Rattle.wire.proofs.number.write_number.Needs as need
+use Rattle.octets.specs.Octets.{octets}
+use Rattle.octets.proofs.Numbers.{length-octets, getD-octets}
+use Rattle.octets.proofs.write_number.Needs as need
 
 pub loop-i-holds : need.loop-i-holds
 loop-i-holds c = paste-none (c .args .out .now) 0 (octets (length (c .args .out .now)) (c .args .c))

@@ -1,8 +1,8 @@
 use mathlib.Core.Logic.{inr}
 use native.Mathlib.Omega.{arith}
 use borrow.Author.Needs.{needs}
-use Rattle.wire.proofs.Numbers.{fewest-from}
-use Rattle.wire.proofs.number.width.Needs as need
+use Rattle.octets.proofs.Numbers.{fewest-from}
+use Rattle.octets.proofs.width.Needs as need
 
 pub returns-else-c-le16777215 : need.returns-else-c-le16777215
 returns-else-c-le16777215 c = record {

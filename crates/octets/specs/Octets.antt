@@ -4,6 +4,10 @@ use mathlib.Core.List.{List, [], _∷_, _++_}
 use Prim.Native.Nat.{ℕ, zero, suc, _*_, _/_, _%_, _^_, _<_, _≤_}
 use lib.Dec.{ltb}
 
+-- the octets of the widest number that is read or written, one on 32 bits
+abbrev pub widest : ℕ
+widest = 4
+
 -- the last n octets of a number, the most significant first
 abbrev pub octets : ℕ → ℕ → List ℕ
 octets zero c = []

@@ -14,8 +14,7 @@ use Rattle.std.proofs.shelf.Digits.{number-push}
 use Rattle.std.proofs.shelf.Lists.{append-assoc, append-nil, getD-append-left, getD-at, length-push}
 use Rattle.std.proofs.shelf.Tests.{cases-lt}
 use Rattle.std.proofs.shelf.Ways.{leb-tells}
-use Rattle.wire.specs.Limits.{widest}
-use Rattle.wire.specs.Octets.{octets, Fewest, widthOf}
+use Rattle.octets.specs.Octets.{octets, widest, Fewest, widthOf}
 
 -- one octet more holds 256 times as much
 pub pow-more : (n : ℕ) → 2 ^ (8 * (n + 1)) ≡ 2 ^ (8 * n) * 256

@@ -3,8 +3,7 @@ ghost use mathlib.Core.Path.{_≡_};
 ghost use Prim.Native.Nat.{_≤_};
 ghost use lib.ListN.{length};
 ghost use Rattle.std.specs.shelf.Digits.{number};
-ghost use Rattle.wire.specs.Limits.{widest};
-ghost use Rattle.wire.specs.Octets.{octets, widthOf, Fewest};
+ghost use Rattle.octets.specs.Octets.{octets, widest, widthOf, Fewest};
 
 // The fewest octets that hold a number, at least one.
 pub fn width(c: u32) -> usize
