@@ -16,11 +16,11 @@ use Rattle.std.specs.declared.result.Result.{Result}
 use Rattle.std.specs.declared.result.Result.the-variants.{Ok, Err}
 use Rattle.refusal.specs.declared.Fault.{Fault}
 use Rattle.wire.specs.declared.front.Front.{Front}
-use Rattle.message.specs.declared.format.Protection.{Protection}
-use Rattle.message.specs.declared.layout.Layout.{Layout}
+use Rattle.framing.specs.declared.format.Protection.{Protection}
+use Rattle.framing.specs.declared.layout.Layout.{Layout}
 use Rattle.message.specs.declared.open.Opened.{Opened}
-use Rattle.message.specs.Formats.{inputsOf}
-use Rattle.message.specs.Layouts.{located}
+use Rattle.framing.specs.Formats.{inputsOf}
+use Rattle.framing.specs.Layouts.{located}
 use Rattle.message.specs.Messages.{Keystream, Tag}
 use Rattle.message.specs.Opens.{cleared, checked, bodyAnswer, bodyBuffer, clearIf}
 

@@ -17,11 +17,11 @@ use Rattle.wire.specs.Ids.{idOctets}
 use Rattle.octets.specs.Octets.{octets, widthOf}
 use Rattle.octets.proofs.Numbers.{length-octets}
 use Rattle.octets.proofs.Pieces.{piece-length, piece-written}
-use Rattle.message.specs.declared.format.Format.{Format}
-use Rattle.message.specs.declared.format.Protection.{Protection}
-use Rattle.message.specs.declared.layout.Layout.{Layout}
-use Rattle.message.specs.Formats.{tagOctets, leadOf, inputsOf}
-use Rattle.message.specs.Layouts.{Laid, Ordered}
+use Rattle.framing.specs.declared.format.Format.{Format}
+use Rattle.framing.specs.declared.format.Protection.{Protection}
+use Rattle.framing.specs.declared.layout.Layout.{Layout}
+use Rattle.framing.specs.Formats.{tagOctets, leadOf, inputsOf}
+use Rattle.framing.specs.Layouts.{Laid, Ordered}
 use Rattle.message.specs.Messages.{Keystream, Tag, bodyOf, tagFor, clearRest, message}
 
 pub length-front : (h : Header) (counter : List ℕ) → length (front h counter) ≡ 1 + length counter + length (idOctets (h .id))

@@ -9,8 +9,8 @@ use Rattle.wire.specs.declared.front.Header.{Header}
 use Rattle.wire.specs.Fronts.{front}
 use Rattle.wire.specs.Ids.{idOctets}
 use Rattle.octets.specs.Octets.{octets}
-use Rattle.message.specs.declared.format.Protection.{Protection}
-use Rattle.message.specs.Formats.{tagOctets, leadOf, inputsOf}
+use Rattle.framing.specs.declared.format.Protection.{Protection}
+use Rattle.framing.specs.Formats.{tagOctets, leadOf, inputsOf}
 
 -- the meaning of a suite: keystream octet and tag
 abbrev pub Keystream : Type 0

@@ -17,11 +17,11 @@ use Rattle.suite.specs.Ciphers.{enciphered, padded}
 use Rattle.wire.specs.declared.front.Header.{Header}
 use Rattle.wire.specs.declared.front.Front.{Front}
 use Rattle.wire.specs.Fronts.{frontRead}
-use Rattle.message.specs.declared.format.Protection.{Protection}
-use Rattle.message.specs.declared.layout.Layout.{Layout}
+use Rattle.framing.specs.declared.format.Protection.{Protection}
+use Rattle.framing.specs.declared.layout.Layout.{Layout}
 use Rattle.message.specs.declared.open.Opened.{Opened}
-use Rattle.message.specs.Formats.{tagOctets, inputsOf}
-use Rattle.message.specs.Layouts.{located}
+use Rattle.framing.specs.Formats.{tagOctets, inputsOf}
+use Rattle.framing.specs.Layouts.{located}
 use Rattle.message.specs.Messages.{Keystream, Tag}
 
 -- a message with what stands from a place on deciphered

@@ -15,10 +15,10 @@ use Rattle.wire.specs.declared.parties.Plane.the-variants.{Control, User}
 use Rattle.wire.specs.declared.front.Header.{Header}
 use Rattle.wire.specs.Fronts.{counterOctets}
 use Rattle.wire.specs.Ids.{idOctets, isId}
-use Rattle.message.specs.declared.format.Format.{Format}
-use Rattle.message.specs.declared.format.Protection.{Protection}
-use Rattle.message.specs.Formats.{tagOctets}
-use Rattle.message.specs.Layouts.{planned}
+use Rattle.framing.specs.declared.format.Format.{Format}
+use Rattle.framing.specs.declared.format.Protection.{Protection}
+use Rattle.framing.specs.Formats.{tagOctets}
+use Rattle.framing.specs.Layouts.{planned}
 use Rattle.message.specs.Messages.{Keystream, Tag, message}
 
 -- a control message has a command

@@ -4,12 +4,12 @@ ghost use Prim.Native.Nat.{_+_, _≤_};
 ghost use lib.ListN.{length};
 ghost use Rattle.std.specs.Vec.{made};
 ghost use Rattle.std.specs.shelf.Text.{sameBytes};
-ghost use Rattle.message.specs.Formats.{inputsOf};
-ghost use Rattle.message.specs.Layouts.{Ordered};
+ghost use Rattle.framing.specs.Formats.{inputsOf};
+ghost use Rattle.framing.specs.Layouts.{Ordered};
 ghost use Rattle.message.specs.Opens.{cleared, tagMatches, lengthMatches, checked, bodyAnswer, bodyBuffer, openAnswer, openBuffer};
 ghost use Rattle.wire.specs.Fronts.{Within};
-use crate::format::Protection;
-use crate::layout::Layout;
+use framing::format::Protection;
+use framing::layout::Layout;
 use octets::read_number;
 use refusal::Fault;
 use refusal::Refusal;
@@ -102,7 +102,8 @@ pub fn open_body<C: Suite>(
 {
     let w = protection.format.locate(front, message.len())?;
     let (keys, inputs) = (protection.keys, protection.inputs(front.header));
-    decipher(suite, keys, inputs, front.to, message);
+    let to = front.to;
+    decipher(suite, keys, inputs, to, message);
     match check(suite, keys, inputs, w, message) {
         Ok(()) => Ok(Opened {
             header: front.header,

@@ -1,6 +1,6 @@
 // Numbers in octets, the most significant first.
 ghost use mathlib.Core.Path.{_≡_};
-ghost use Prim.Native.Nat.{_≤_};
+ghost use Prim.Native.Nat.{_*_, _/_, _%_, _^_, _<_, _≤_};
 ghost use lib.ListN.{length};
 ghost use Rattle.std.specs.shelf.Digits.{number};
 ghost use Rattle.octets.specs.Octets.{octets, widest, widthOf, Fewest};
@@ -22,6 +22,14 @@ pub fn width(c: u32) -> usize
     }
 }
 
+// The octet of a number that `behind` more octets follow.
+fn octet(c: u32, behind: usize) -> u8
+    requires { ⌜ behind < widest ⌝ }
+    ensures { λ r. ⌜ r ≡ c / 2 ^ (8 * behind) % 256 ⌝ }
+{
+    ((c >> (8 * behind)) % 256) as u8
+}
+
 // Fills `out` with the last octets of a number.
 pub fn write_number(c: u32, out: &mut [u8])
     requires { ⌜ length (now out) ≤ widest ⌝ }
@@ -29,7 +37,7 @@ pub fn write_number(c: u32, out: &mut [u8])
 {
     let n = out.len();
     for i in 0..n {
-        out[i] = ((c >> (8 * (n - 1 - i))) % 256) as u8;
+        out[i] = octet(c, n - 1 - i);
     }
 }
 

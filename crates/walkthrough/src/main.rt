@@ -1,11 +1,11 @@
 // One reading on its way: sealed by the logger, opened by the service, and refused where it was altered.
 use bench_suite::Bench;
 use bench_suite::BenchSuite;
-use message::format::DataLength;
-use message::format::Format;
-use message::format::Protection;
-use message::format::TagLength;
-use message::loopback::loopback;
+use framing::format::DataLength;
+use framing::format::Format;
+use framing::format::Protection;
+use framing::format::TagLength;
+use loopback::loopback;
 use message::open::open;
 use message::seal::seal;
 use refusal::FaultDisplay;

@@ -1,8 +1,8 @@
 // The keys, headers and formats that the examples share.
-use message::format::DataLength;
-use message::format::Format;
-use message::format::Protection;
-use message::format::TagLength;
+use framing::format::DataLength;
+use framing::format::Format;
+use framing::format::Protection;
+use framing::format::TagLength;
 use suite::Keyset;
 use wire::front::Header;
 use wire::id::SessionId;
