@@ -3,6 +3,7 @@ use mathlib.Core.Path.{_≡_, refl, sym, ap, subst, _∙_}
 use mathlib.Core.Logic.{_⊎_, inl, inr}
 use mathlib.Core.List.{List, [], _∷_, _++_}
 use Prim.Native.Nat.{ℕ, zero, suc, _+_, _-_, _*_, _/_, _%_, _^_, _<_, _≤_}
+use native.Mathlib.Nat.{mul-assoc}
 use native.Mathlib.Omega.{arith}
 use lib.Dec.{ltb}
 use lib.ListN.{length, getD}
@@ -77,12 +78,25 @@ fewest-from c n h below = record {
   least = λ k one fits. elim below [ inl z ↦ omega arith | inr b ↦ more-than n c k b fits ];
 }
 
--- one octet more of a number below the widest
-pub room : (i c x : ℕ) → i < widest → c < 2 ^ (8 * i) → x < 256 → (c * 256 + x < 2 ^ 32) × (c * 256 + x < 2 ^ (8 * (i + 1)))
-room i c x h l b =
-    let p : 2 ^ (8 * i) ≤ 2 ^ 24 = pow-mono (let q : 8 * i ≤ 24 = omega arith in q) in
+-- one octet more of a number that has fewer than w
+pub room : (w i c x : ℕ) → i < w → c < 2 ^ (8 * i) → x < 256 → (c * 256 + x < 2 ^ (8 * w)) × (c * 256 + x < 2 ^ (8 * (i + 1)))
+room w i c x h l b =
+    let p : 2 ^ (8 * (i + 1)) ≤ 2 ^ (8 * w) = pow-mono (let q : 8 * (i + 1) ≤ 8 * w = omega arith in q) in
     let m = pow-more i in
     (omega arith, omega arith)
+
+-- an octet more behind octets
+pub under-push : (xs : List ℕ) (x : ℕ) → Under 256 xs → x < 256 → Under 256 (xs ++ (x ∷ []))
+under-push [] x u h = (h, tt)
+under-push (y ∷ xs) x u h = (u .0, under-push xs x (u .1) h)
+
+pub under-octets : (n c : ℕ) → Under 256 (octets n c)
+under-octets zero c = tt
+under-octets (suc n) c = under-push (octets n (c / 256)) (c % 256) (under-octets n (c / 256)) (omega arith)
+
+-- the octet at a place of octets, from the number that they write
+pub octet-at : (xs : List ℕ) (i : ℕ) → Under 256 xs → i < length xs → getD xs i 0 ≡ number 256 xs / 2 ^ (8 * (length xs - 1 - i)) % 256
+octet-at xs i u h = ap (λ (l : List ℕ). getD l i 0) (sym (octets-number xs u)) ∙ getD-octets (length xs) (number 256 xs) i h
 
 pub width-fewest : (c : ℕ) → c < 2 ^ 32 → Fewest c (widthOf c)
 width-fewest c h = elim (leb-tells (suc c) (2 ^ 8)) [
@@ -134,3 +148,21 @@ width-number x xs u some short =
     let most = fewest .least (suc n) (omega arith) above in
     let least = more-than n c (widthOf c) below (fewest .holds) in
     omega arith
+
+-- the octets of two numbers, one behind the other, are those of one number
+pub octets-join : (n m a b : ℕ) → b < 2 ^ (8 * m) → octets n a ++ octets m b ≡ octets (n + m) (a * 2 ^ (8 * m) + b)
+octets-join n zero a b h =
+    let z : n + 0 ≡ n = omega arith in
+    let s : a * 1 + b ≡ a = omega arith in
+    let e = append-nil (octets n a) in
+    cc
+octets-join n (suc m) a b h =
+    let p : 2 ^ (8 * suc m) ≡ 2 ^ (8 * m) * 256 = ap (λ k. 2 ^ (8 * k)) (let s : suc m ≡ m + 1 = omega arith in s) ∙ pow-more m in
+    let q : a * (2 ^ (8 * m) * 256) ≡ a * 2 ^ (8 * m) * 256 = sym (mul-assoc a (2 ^ (8 * m)) 256) in
+    let x : a * 2 ^ (8 * suc m) + b ≡ a * 2 ^ (8 * m) * 256 + b = ap (λ k. a * k + b) p ∙ ap (λ k. k + b) q in
+    let d : (a * 2 ^ (8 * m) * 256 + b) / 256 ≡ a * 2 ^ (8 * m) + b / 256 = omega arith in
+    let r : (a * 2 ^ (8 * m) * 256 + b) % 256 ≡ b % 256 = omega arith in
+    let s : n + suc m ≡ suc (n + m) = omega arith in
+    let i = octets-join n m a (b / 256) (omega arith) in
+    let g = append-assoc (octets n a) (octets m (b / 256)) (b % 256 ∷ []) in
+    cc

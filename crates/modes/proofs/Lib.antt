@@ -1,0 +1,4 @@
+pub mod Blocks
+pub mod Readings
+pub mod Streams
+pub mod Chains

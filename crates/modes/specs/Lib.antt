@@ -1,0 +1,4 @@
+pub mod Blocks
+pub mod Cmac
+pub mod Counter
+pub mod Texts

@@ -1,0 +1,58 @@
+// A cipher of 16-octet blocks, and blocks as numbers and octets.
+ghost use mathlib.Core.Path.{_≡_};
+ghost use mathlib.Core.List.{List, _++_};
+ghost use Prim.Native.Nat.{ℕ};
+ghost use Rattle.std.specs.shelf.Digits.{number};
+ghost use Rattle.octets.specs.Octets.{octets};
+ghost use Rattle.aes.specs.Cipher.{xors};
+ghost use Rattle.modes.specs.Blocks.{octetsOf};
+use aes::Block;
+
+pub trait BlockCipher {
+    // What a block of 16 octets is enciphered to.
+    ghost ciph: { Self → List ℕ → List ℕ };
+
+    fn encrypt(&self, block: Block) -> Block
+        ensures { λ r. ⌜ octetsOf r ≡ ciph (now (self .entry)) (octetsOf block) ⌝ };
+}
+
+// The block of sixteen octets 00.
+pub const ZEROS: Block = Block {
+    a: 0,
+    b: 0,
+    c: 0,
+    d: 0,
+};
+
+// Exclusive or of two blocks.
+pub fn sum(x: Block, y: Block) -> Block
+    ensures { λ r. ⌜ octetsOf r ≡ xors (octetsOf x) (octetsOf y) ⌝ }
+{
+    Block {
+        a: x.a ^ y.a,
+        b: x.b ^ y.b,
+        c: x.c ^ y.c,
+        d: x.d ^ y.d,
+    }
+}
+
+// The number that the octets of a block write.
+pub fn number_of(block: Block) -> u128
+    ensures { λ r. ⌜ r ≡ number 256 (octetsOf block) ⌝ }
+{
+    let high = (block.a as u64) * 0x1_0000_0000 + block.b as u64;
+    let low = (block.c as u64) * 0x1_0000_0000 + block.d as u64;
+    (high as u128) * 0x1_0000_0000_0000_0000 + low as u128
+}
+
+// The block of eight octets of one number and eight of another.
+pub fn block_of(high: u64, low: u64) -> Block
+    ensures { λ r. ⌜ octetsOf r ≡ octets 8 high ++ octets 8 low ⌝ }
+{
+    Block {
+        a: (high >> 32) as u32,
+        b: (high % 0x1_0000_0000) as u32,
+        c: (low >> 32) as u32,
+        d: (low % 0x1_0000_0000) as u32,
+    }
+}
