@@ -1,0 +1,5 @@
+mod Addends
+mod Expansion
+mod Products
+mod Rounds
+pub mod Xors
