@@ -94,7 +94,8 @@ impl Block {
         }
     }
 
-    fn plus(self, key: Block) -> Block
+    // Exclusive or of two blocks.
+    pub fn plus(self, key: Block) -> Block
         ensures { λ r. ⌜ blockOctets r ≡ addRoundKey (blockOctets self) (blockOctets key) ⌝ }
     {
         Block {

@@ -4,9 +4,11 @@ ghost use mathlib.Core.List.{List, _++_};
 ghost use Prim.Native.Nat.{ℕ};
 ghost use Rattle.std.specs.shelf.Digits.{number};
 ghost use Rattle.octets.specs.Octets.{octets};
-ghost use Rattle.aes.specs.Cipher.{xors};
+ghost use Rattle.aes.specs.Cipher.{cipher, xors};
+ghost use Rattle.aes.specs.Words.{wordsOf};
 ghost use Rattle.modes.specs.Blocks.{octetsOf};
 use aes::Block;
+use aes::Schedule;
 
 pub trait BlockCipher {
     // What a block of 16 octets is enciphered to.
@@ -14,6 +16,14 @@ pub trait BlockCipher {
 
     fn encrypt(&self, block: Block) -> Block
         ensures { λ r. ⌜ octetsOf r ≡ ciph (now (self .entry)) (octetsOf block) ⌝ };
+}
+
+pub impl BlockCipher for Schedule as AesCipher {
+    ghost ciph = { λ s. cipher (wordsOf s) };
+
+    fn encrypt(&self, block: Block) -> Block {
+        self.encrypt(block)
+    }
 }
 
 // The block of sixteen octets 00.
@@ -28,12 +38,7 @@ pub const ZEROS: Block = Block {
 pub fn sum(x: Block, y: Block) -> Block
     ensures { λ r. ⌜ octetsOf r ≡ xors (octetsOf x) (octetsOf y) ⌝ }
 {
-    Block {
-        a: x.a ^ y.a,
-        b: x.b ^ y.b,
-        c: x.c ^ y.c,
-        d: x.d ^ y.d,
-    }
+    x.plus(y)
 }
 
 // The number that the octets of a block write.
