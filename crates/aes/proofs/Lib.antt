@@ -1,5 +1,5 @@
 mod Addends
 mod Expansion
-mod Products
+pub mod Products
 mod Rounds
 pub mod Xors

@@ -9,7 +9,7 @@ use lib.Dec.{eqb, ltb}
 use Rattle.std.proofs.shelf.Ways.{leb-tells, eqb-tells}
 use Rattle.aes.specs.Field.{xtime, product, productBy}
 
-xtime-lt : (a : ℕ) → a < 256 → xtime a < 256
+pub xtime-lt : (a : ℕ) → a < 256 → xtime a < 256
 unfolding xtime
 xtime-lt a h = elim (leb-tells (suc a) 128) [
   | inl p ↦ rw (p .0) (omega arith)
