@@ -79,8 +79,8 @@ shifted-octets state u = record {
   under =
       under-map (λ i. shifted state (i % 4) (i / 4))
       (λ i.
-          let c = (i / 4 + i % 4) % 4 in
-          getD-under (column state c) (i % 4) (all-take (λ d. d < 256) 4 (drop (4 * c) state) (all-drop (λ d. d < 256) (4 * c) state u)))
+      let c = (i / 4 + i % 4) % 4 in
+      getD-under (column state c) (i % 4) (all-take (λ d. d < 256) 4 (drop (4 * c) state) (all-drop (λ d. d < 256) (4 * c) state u)))
       (counting 0 16);
 }
 

@@ -9,12 +9,12 @@ ghost use Rattle.octets.specs.Octets.{octets};
 ghost use Rattle.modes.specs.Blocks.{octetsOf};
 ghost use Rattle.modes.specs.Cmac.{cmacOf, doubled, subkey1, subkey2};
 ghost use Rattle.modes.specs.Texts.{octetFrom};
-use aes::Block;
 use crate::block::BlockCipher;
 use crate::block::ZEROS;
 use crate::block::block_of;
 use crate::block::number_of;
 use crate::block::sum;
+use aes::Block;
 
 // Twice a block in the field of 2^128 elements, without a branch.
 fn doubled(block: Block) -> Block
@@ -41,7 +41,11 @@ fn octet_from(head: &[u8], message: &[u8], start: usize, k: usize) -> u8
     let left = head.len() + message.len() - start;
     if k < left {
         let i = start + k;
-        if i < head.len() { head[i] } else { message[i - head.len()] }
+        if i < head.len() {
+            head[i]
+        } else {
+            message[i - head.len()]
+        }
     } else if k == left {
         0x80
     } else {
@@ -83,6 +87,9 @@ pub fn cmac<C: BlockCipher>(cipher: &C, head: &[u8], message: &[u8]) -> Block
         state = cipher.encrypt(sum(state, block_from(head, message, 16 * i)));
     }
     let start = 16 * before;
-    let last = sum(block_from(head, message, start), subkey(cipher, len - start == 16));
+    let last = sum(
+        block_from(head, message, start),
+        subkey(cipher, len - start == 16),
+    );
     cipher.encrypt(sum(state, last))
 }
