@@ -123,19 +123,19 @@ impl Schedule {
     pub fn new(first: u64, second: u64) -> Schedule
         ensures { λ r. ⌜ wordsOf r ≡ keyExpansion (keyOctets first second) ⌝ }
     {
-        let mut words = [0u32; WORDS];
-        words[0] = (first >> 32) as u32;
-        words[1] = (first % (1 << 32)) as u32;
-        words[2] = (second >> 32) as u32;
-        words[3] = (second % (1 << 32)) as u32;
+        let mut schedule = Schedule { words: [0; WORDS] };
+        schedule.words[0] = (first >> 32) as u32;
+        schedule.words[1] = (first % (1 << 32)) as u32;
+        schedule.words[2] = (second >> 32) as u32;
+        schedule.words[3] = (second % (1 << 32)) as u32;
         for r in 0..10 {
-            let mut sum = rotated(words[4 * r + 3]) ^ word(round_constant(r), 0, 0, 0);
+            let mut sum = rotated(schedule.words[4 * r + 3]) ^ word(round_constant(r), 0, 0, 0);
             for j in 0..4 {
-                sum = words[4 * r + j] ^ sum;
-                words[4 * r + j + 4] = sum;
+                sum = schedule.words[4 * r + j] ^ sum;
+                schedule.words[4 * r + j + 4] = sum;
             }
         }
-        Schedule { words }
+        schedule
     }
 
     fn round_key(&self, r: usize) -> Block
