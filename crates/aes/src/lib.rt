@@ -4,10 +4,11 @@ ghost use mathlib.Core.List.{[], _∷_, map};
 ghost use Prim.Native.Nat.{_<_, _≤_};
 ghost use lib.ListN.{getD};
 ghost use Rattle.aes.specs.Field.{sbox};
-ghost use Rattle.aes.specs.Cipher.{subBytes, shiftRows, mixColumn, mixColumns, addRoundKey, roundKey, cipher, rotWord, subWord, keyExpansion};
+ghost use Rattle.aes.specs.Cipher.{subBytes, shiftRows, mixColumn, mixColumns, xors, roundKey, cipher, rotWord, subWord, keyExpansion};
 ghost use Rattle.aes.specs.Words.{blockOctets, diagonal, keyOctets, wordsOf};
 ghost use Rattle.octets.specs.Octets.{octets};
 
+pub mod laws;
 mod tables;
 
 use crate::tables::round_constant;
@@ -94,14 +95,14 @@ impl Block {
         }
     }
 
-    fn plus(self, key: Block) -> Block
-        ensures { λ r. ⌜ blockOctets r ≡ addRoundKey (blockOctets self) (blockOctets key) ⌝ }
+    pub fn xor(self, other: Block) -> Block
+        ensures { λ r. ⌜ blockOctets r ≡ xors (blockOctets self) (blockOctets other) ⌝ }
     {
         Block {
-            a: self.a ^ key.a,
-            b: self.b ^ key.b,
-            c: self.c ^ key.c,
-            d: self.d ^ key.d,
+            a: self.a ^ other.a,
+            b: self.b ^ other.b,
+            c: self.c ^ other.c,
+            d: self.d ^ other.d,
         }
     }
 }
@@ -154,10 +155,10 @@ impl Schedule {
     pub fn encrypt(&self, block: Block) -> Block
         ensures { λ r. ⌜ blockOctets r ≡ cipher (wordsOf (now (self .entry))) (blockOctets block) ⌝ }
     {
-        let mut state = block.plus(self.round_key(0));
+        let mut state = block.xor(self.round_key(0));
         for r in 0..9 {
-            state = state.mixed().plus(self.round_key(r + 1));
+            state = state.mixed().xor(self.round_key(r + 1));
         }
-        state.shifted().plus(self.round_key(10))
+        state.shifted().xor(self.round_key(10))
     }
 }

@@ -2,7 +2,7 @@ use mathlib.Core.Path.{_≡_, refl, subst}
 use Prim.Native.Nat.{_+_, _*_, _<_}
 use native.Mathlib.Omega.{arith}
 use lib.ListN.{getD, replicate}
-use Rattle.aes.specs.Words.{keyOctets}
+use Rattle.aes.specs.Words.{keyOctets, wordsOf}
 use Rattle.aes.proofs.Expansion.{Begun, begun-key, first-sum, begun-turn, begun-all}
 use Rattle.aes.proofs.Schedule.new.Needs as need
 
@@ -23,6 +23,7 @@ loop-r-again c = λ key start.
     subst (λ k. Begun key k (c .loop-j .schedule .words)) n (c .loop-j .inv key begun sum .0)
 
 pub returns : need.returns
+unfolding wordsOf
 returns c =
     let start = begun-key (c .args .first) (c .args .second) (replicate 44 0) refl in
     begun-all (keyOctets (c .args .first) (c .args .second)) (c .loop-r .schedule .words) (4 * c .loop-r .r + 4) (omega arith) (c .loop-r .inv _ start)
