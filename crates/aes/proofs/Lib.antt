@@ -1,6 +1,6 @@
 mod Addends
 mod Expansion
 mod Inverses
-mod Products
+pub mod Products
 mod Rounds
 pub mod Xors

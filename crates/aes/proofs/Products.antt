@@ -1,15 +1,15 @@
 -- A product of octets is an octet. Assumes nothing.
-use mathlib.Core.Path.{_≡_, subst, sym, _∙_}
+use mathlib.Core.Path.{_≡_, subst, sym}
 use mathlib.Core.Bool.{cond}
 use mathlib.Core.Logic.{inl, inr}
 use Prim.Native.Nat.{ℕ, zero, suc, _+_, _-_, _*_, _/_, _%_, _^_, _<_}
 use native.Mathlib.Omega.{arith}
 use lib.Bits.{bitXor, xor-lt, xor-block}
-use lib.Dec.{eqb, ltb}
+use lib.Dec.{eqb}
 use Rattle.std.proofs.shelf.Ways.{leb-tells, eqb-tells}
 use Rattle.aes.specs.Field.{xtime, product, productBy}
 
-xtime-lt : (a : ℕ) → a < 256 → xtime a < 256
+pub xtime-lt : (a : ℕ) → a < 256 → xtime a < 256
 unfolding xtime
 xtime-lt a h = elim (leb-tells (suc a) 128) [
   | inl p ↦ rw (p .0) (omega arith)

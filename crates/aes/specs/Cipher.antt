@@ -45,7 +45,7 @@ mixColumn word =
 unfoldable pub mixColumns : List ℕ → List ℕ
 mixColumns state = joined (λ c. mixColumn (column state c)) (counting 0 4)
 
-abbrev pub addRoundKey : List ℕ → List ℕ → List ℕ
+unfoldable pub addRoundKey : List ℕ → List ℕ → List ℕ
 addRoundKey state key = xors state key
 
 -- the key of round r, from the words of an expanded key
@@ -89,5 +89,5 @@ unfoldable pub keyExpansion : List ℕ → List (List ℕ)
 keyExpansion key = map (keyWord key) (counting 0 44)
 
 -- a block enciphered under a key
-abbrev pub aes128 : List ℕ → List ℕ → List ℕ
-aes128 key block = cipher (keyExpansion key) block
+abbrev pub aes : List ℕ → List ℕ → List ℕ
+aes key block = cipher (keyExpansion key) block

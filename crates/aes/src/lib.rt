@@ -95,7 +95,8 @@ impl Block {
         }
     }
 
-    pub fn xor(self, other: Block) -> Block
+    // Exclusive or of two blocks.
+    pub fn plus(self, other: Block) -> Block
         ensures { λ r. ⌜ blockOctets r ≡ xors (blockOctets self) (blockOctets other) ⌝ }
     {
         Block {
@@ -155,10 +156,10 @@ impl Schedule {
     pub fn encrypt(&self, block: Block) -> Block
         ensures { λ r. ⌜ blockOctets r ≡ cipher (wordsOf (now (self .entry))) (blockOctets block) ⌝ }
     {
-        let mut state = block.xor(self.round_key(0));
+        let mut state = block.plus(self.round_key(0));
         for r in 0..9 {
-            state = state.mixed().xor(self.round_key(r + 1));
+            state = state.mixed().plus(self.round_key(r + 1));
         }
-        state.shifted().xor(self.round_key(10))
+        state.shifted().plus(self.round_key(10))
     }
 }

@@ -2,7 +2,7 @@ use mathlib.Core.Path.{refl}
 use mathlib.Core.List.{[], _∷_}
 use Rattle.aes.specs.Words.{blockOctets}
 use Rattle.aes.proofs.Xors.{joined-xors}
-use Rattle.aes.proofs.Block.xor.Needs as need
+use Rattle.aes.proofs.Block.plus.Needs as need
 
 pub returns : need.returns
 unfolding blockOctets
