@@ -41,7 +41,7 @@ low-is x =
 -- a key's own words
 pub begun-key : (first second : ℕ) (words : List ℕ) → length words ≡ 44
     → Begun (keyOctets first second) 4 (set (set (set (set words 0 (first / 2 ^ 32)) 1 (first % 2 ^ 32)) 2 (second / 2 ^ 32)) 3 (second % 2 ^ 32))
-unfolding keyWord
+unfolding keyWord keyOctets
 begun-key first second words l =
     let key : List ℕ = keyOctets first second in
     let begun0 : Begun key 0 words = (l, λ k h. absurd (omega arith)) in

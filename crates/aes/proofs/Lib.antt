@@ -1,5 +1,6 @@
 mod Addends
 mod Expansion
+mod Inverses
 pub mod Products
 mod Rounds
 pub mod Xors

@@ -1,16 +1,15 @@
 -- The steps of a round, column by column. Assumes nothing.
-use mathlib.Core.Path.{_≡_, refl, sym, ap, _∙_}
+use mathlib.Core.Path.{_≡_, sym, ap, _∙_}
 use mathlib.Core.List.{List, [], _∷_, _++_, map}
-use Prim.Native.Nat.{ℕ, _+_, _≤_, _<_}
+use Prim.Native.Nat.{ℕ, _+_, _<_}
 use native.Mathlib.Numerals.{add-one}
-use native.Mathlib.Omega.{arith}
 use lib.Bits.{bitXor}
 use lib.ListN.{getD, length}
 use Rattle.std.specs.shelf.Lists.{joined}
 use Rattle.std.proofs.shelf.Lists.{getD-map}
 use Rattle.octets.specs.Octets.{octets}
 use Rattle.aes.specs.Field.{sbox}
-use Rattle.aes.specs.Cipher.{xors, subBytes, shiftRows, mixColumns, addRoundKey, roundKey, rounds, cipher, addends}
+use Rattle.aes.specs.Cipher.{xors, subBytes, shiftRows, addends, mixColumns, addRoundKey, roundKey, rounds}
 use Rattle.aes.proofs.Xors.{octets-xor}
 
 -- a block whose columns are known
@@ -30,13 +29,6 @@ word-is words i j p h = sym (getD-map (octets 4) words i 0 [] h) ∙ ap (λ k. g
 
 -- one round more
 pub rounds-more : (words : List (List ℕ)) (first state mixed key next : List ℕ) (n : ℕ) → state ≡ rounds words first n
-    → mixed ≡ mixColumns (shiftRows (subBytes state)) → key ≡ roundKey words (n + 1) → next ≡ addRoundKey mixed key → next ≡ rounds words first (n + 1)
-unfolding rounds
+    → mixed ≡ mixColumns (shiftRows (subBytes state)) → key ≡ roundKey words (n + 1) → next ≡ xors mixed key → next ≡ rounds words first (n + 1)
+unfolding rounds addRoundKey
 rounds-more words first state mixed key next n p q r s = let o = add-one n in cc
-
--- the last round after nine
-pub rounds-all : (words : List (List ℕ)) (block key0 first state shifted key last : List ℕ) (n : ℕ) → key0 ≡ roundKey words 0 → first ≡ addRoundKey block key0
-    → state ≡ rounds words first n → n ≡ 9 → shifted ≡ shiftRows (subBytes state) → key ≡ roundKey words 10 → last ≡ addRoundKey shifted key
-    → last ≡ cipher words block
-unfolding cipher
-rounds-all words block key0 first state shifted key last n p q r e s t u = cc

@@ -4,10 +4,11 @@ ghost use mathlib.Core.List.{[], _∷_, map};
 ghost use Prim.Native.Nat.{_<_, _≤_};
 ghost use lib.ListN.{getD};
 ghost use Rattle.aes.specs.Field.{sbox};
-ghost use Rattle.aes.specs.Cipher.{subBytes, shiftRows, mixColumn, mixColumns, addRoundKey, roundKey, cipher, rotWord, subWord, keyExpansion};
+ghost use Rattle.aes.specs.Cipher.{subBytes, shiftRows, mixColumn, mixColumns, xors, roundKey, cipher, rotWord, subWord, keyExpansion};
 ghost use Rattle.aes.specs.Words.{blockOctets, diagonal, keyOctets, wordsOf};
 ghost use Rattle.octets.specs.Octets.{octets};
 
+pub mod laws;
 mod tables;
 
 use crate::tables::round_constant;
@@ -95,14 +96,14 @@ impl Block {
     }
 
     // Exclusive or of two blocks.
-    pub fn plus(self, key: Block) -> Block
-        ensures { λ r. ⌜ blockOctets r ≡ addRoundKey (blockOctets self) (blockOctets key) ⌝ }
+    pub fn plus(self, other: Block) -> Block
+        ensures { λ r. ⌜ blockOctets r ≡ xors (blockOctets self) (blockOctets other) ⌝ }
     {
         Block {
-            a: self.a ^ key.a,
-            b: self.b ^ key.b,
-            c: self.c ^ key.c,
-            d: self.d ^ key.d,
+            a: self.a ^ other.a,
+            b: self.b ^ other.b,
+            c: self.c ^ other.c,
+            d: self.d ^ other.d,
         }
     }
 }
@@ -124,19 +125,19 @@ impl Schedule {
     pub fn new(first: u64, second: u64) -> Schedule
         ensures { λ r. ⌜ wordsOf r ≡ keyExpansion (keyOctets first second) ⌝ }
     {
-        let mut words = [0u32; WORDS];
-        words[0] = (first >> 32) as u32;
-        words[1] = (first % (1 << 32)) as u32;
-        words[2] = (second >> 32) as u32;
-        words[3] = (second % (1 << 32)) as u32;
+        let mut schedule = Schedule { words: [0; WORDS] };
+        schedule.words[0] = (first >> 32) as u32;
+        schedule.words[1] = (first % (1 << 32)) as u32;
+        schedule.words[2] = (second >> 32) as u32;
+        schedule.words[3] = (second % (1 << 32)) as u32;
         for r in 0..10 {
-            let mut sum = rotated(words[4 * r + 3]) ^ word(round_constant(r), 0, 0, 0);
+            let mut sum = rotated(schedule.words[4 * r + 3]) ^ word(round_constant(r), 0, 0, 0);
             for j in 0..4 {
-                sum = words[4 * r + j] ^ sum;
-                words[4 * r + j + 4] = sum;
+                sum = schedule.words[4 * r + j] ^ sum;
+                schedule.words[4 * r + j + 4] = sum;
             }
         }
-        Schedule { words }
+        schedule
     }
 
     fn round_key(&self, r: usize) -> Block

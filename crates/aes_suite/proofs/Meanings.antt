@@ -12,8 +12,7 @@ use Rattle.suite.specs.declared.Inputs.{Inputs}
 use Rattle.suite.specs.Ciphers.{enciphered, padded, longestTag}
 use Rattle.aes.specs.declared.Block.{Block}
 use Rattle.aes.specs.Cipher.{aes, cipher, keyExpansion, xors}
-use Rattle.aes.specs.Words.{keyOctets}
-use Rattle.modes.specs.Blocks.{octetsOf}
+use Rattle.aes.specs.Words.{blockOctets, keyOctets}
 use Rattle.modes.specs.Cmac.{cmacOf, blocksBefore, chained, lastBlock}
 use Rattle.modes.specs.Counter.{counterBlock, counterStream}
 use Rattle.aes_suite.specs.Suites.{tagSize, startOf, eea2, eia2, eea0}
@@ -50,18 +49,18 @@ octets-of-64 s =
     let e7 : s / 256 / 256 / 256 / 256 / 256 / 256 / 256 ≡ s / 2 ^ 56 = omega arith in
     cc
 
-first-word : (b : Block) → take tagSize (octetsOf b) ≡ octets 4 (b .a)
-unfolding octetsOf
+first-word : (b : Block) → take tagSize (blockOctets b) ≡ octets 4 (b .a)
+unfolding blockOctets
 first-word b = refl
 
 pub tag-is : (k : Keyset) (i : Inputs) (m : List ℕ) (words : List (List ℕ)) (start : ℕ) (head part : List ℕ) (b : Block)
     → words ≡ keyExpansion (keyOctets (k .integrity0) (k .integrity1)) → start ≡ startOf i
     → head ≡ start / 2 ^ 56 % 256 ∷ start / 2 ^ 48 % 256 ∷ start / 2 ^ 40 % 256 ∷ start / 2 ^ 32 % 256 ∷ start / 2 ^ 24 % 256 ∷ start / 2 ^ 16 % 256 ∷ start / 2 ^ 8 % 256 ∷ start % 256 ∷ []
-    → octetsOf b ≡ cmacOf (cipher words) (head ++ m) → part ≡ octets 4 (b .a) → part ++ replicate 12 0 ≡ padded (eia2 k i m)
+    → blockOctets b ≡ cmacOf (cipher words) (head ++ m) → part ≡ octets 4 (b .a) → part ++ replicate 12 0 ≡ padded (eia2 k i m)
 unfolding eia2
 tag-is k i m words start head part b words-is start-is head-is tag-made part-is =
     let h : head ≡ octets 8 (startOf i) = head-is ∙ octets-of-64 start ∙ ap (octets 8) start-is in
-    let made : octetsOf b ≡ cmacOf (aes (keyOctets (k .integrity0) (k .integrity1))) (octets 8 (startOf i) ++ m) =
+    let made : blockOctets b ≡ cmacOf (aes (keyOctets (k .integrity0) (k .integrity1))) (octets 8 (startOf i) ++ m) =
     tag-made ∙ ap (λ (w : List (List ℕ)). cmacOf (cipher w) (head ++ m)) words-is ∙ ap (λ (l : List ℕ). cmacOf (aes (keyOctets (k .integrity0) (k .integrity1))) (l ++ m)) h in
     let p : part ≡ eia2 k i m = part-is ∙ sym (first-word b) ∙ ap (take tagSize) made in
     let n : longestTag - length (eia2 k i m) ≡ 12 = (let s = eia2-size k i m in omega arith) in

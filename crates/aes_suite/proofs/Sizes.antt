@@ -126,7 +126,7 @@ round-key-octets key r k h =
 
 -- a block enciphered under a key of sixteen octets
 pub aes-octets : (first second : ℕ) (block : List ℕ) → Octets 16 (aes (keyOctets first second) block)
-unfolding cipher addRoundKey subBytes
+unfolding cipher addRoundKey subBytes keyOctets
 aes-octets first second block =
     let key = keyOctets first second in
     let k : Octets 16 key = append-octets 8 8 (octets 8 first) (octets 8 second) (number-octets 8 first) (number-octets 8 second) in

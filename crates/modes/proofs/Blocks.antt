@@ -13,7 +13,7 @@ use Rattle.std.proofs.shelf.Ways.{leb-tells}
 use Rattle.octets.specs.Octets.{octets}
 use Rattle.octets.proofs.Numbers.{octets-join, under-octets}
 use Rattle.aes.specs.declared.Block.{Block}
-use Rattle.modes.specs.Blocks.{octetsOf}
+use Rattle.aes.specs.Words.{blockOctets}
 use Rattle.modes.specs.Cmac.{twice, doubled, zeros}
 
 -- the two halves of a number of 128 bits, one behind the other
@@ -46,8 +46,8 @@ high-fits n h =
     let b : bitXor (n * 2 % 2 ^ 128) (n / 2 ^ 127 * 0x87) < 2 ^ 128 = xor-lt 128 (n * 2 % 2 ^ 128) (n / 2 ^ 127 * 0x87) (omega arith) (omega arith) in
     omega arith
 
-pub zeros-are : octetsOf (record { a = 0; b = 0; c = 0; d = 0 }) ≡ zeros
-unfolding octetsOf
+pub zeros-are : blockOctets (record { a = 0; b = 0; c = 0; d = 0 }) ≡ zeros
+unfolding blockOctets
 zeros-are = refl
 
 -- octets one behind the other
@@ -55,8 +55,8 @@ under-both : (xs ys : List ℕ) → Under 256 xs → Under 256 ys → Under 256 
 under-both xs ys u v = all-append (λ d. d < 256) xs ys u v
 
 -- a block has sixteen octets
-pub octets-whole : (b : Block) → (length (octetsOf b) ≡ 16) × Under 256 (octetsOf b)
-unfolding octetsOf
+pub octets-whole : (b : Block) → (length (blockOctets b) ≡ 16) × Under 256 (blockOctets b)
+unfolding blockOctets
 octets-whole b =
     let w : ℕ → List ℕ = octets 4 in
     let d = under-both (w (b .d)) [] (under-octets 4 (b .d)) tt in

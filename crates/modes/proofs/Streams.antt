@@ -8,16 +8,16 @@ use Rattle.std.specs.shelf.Digits.{number, Under}
 use Rattle.octets.specs.Octets.{octets}
 use Rattle.octets.proofs.Numbers.{octet-at}
 use Rattle.aes.specs.declared.Block.{Block}
-use Rattle.modes.specs.Blocks.{octetsOf}
+use Rattle.aes.specs.Words.{blockOctets}
 use Rattle.modes.specs.Counter.{counterBlock, counterStream, Enciphers}
 use Rattle.modes.proofs.Blocks.{octets-whole}
 
 -- a counter block that was made and enciphered
-pub enciphers-made : (ciph : List ℕ → List ℕ) (start i n : ℕ) (b e : Block) → octetsOf b ≡ octets 8 start ++ octets 8 i → octetsOf e ≡ ciph (octetsOf b)
-    → n ≡ number 256 (octetsOf e) → Enciphers ciph start i n
+pub enciphers-made : (ciph : List ℕ → List ℕ) (start i n : ℕ) (b e : Block) → blockOctets b ≡ octets 8 start ++ octets 8 i → blockOctets e ≡ ciph (blockOctets b)
+    → n ≡ number 256 (blockOctets e) → Enciphers ciph start i n
 unfolding counterBlock
 enciphers-made ciph start i n b e b-is e-is n-is =
-    let same : octetsOf e ≡ ciph (octets 8 start ++ octets 8 i) = e-is ∙ ap ciph b-is in
+    let same : blockOctets e ≡ ciph (octets 8 start ++ octets 8 i) = e-is ∙ ap ciph b-is in
     let w = octets-whole e in
     record { is = n-is ∙ ap (number 256) same; whole = sym (ap length same) ∙ w .0; under = subst (Under 256) same (w .1) }
 

@@ -1,4 +1,3 @@
-pub mod Blocks
 pub mod Cmac
 pub mod Counter
 pub mod Texts

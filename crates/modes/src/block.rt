@@ -4,9 +4,8 @@ ghost use mathlib.Core.List.{List, _++_};
 ghost use Prim.Native.Nat.{ℕ};
 ghost use Rattle.std.specs.shelf.Digits.{number};
 ghost use Rattle.octets.specs.Octets.{octets};
-ghost use Rattle.aes.specs.Cipher.{cipher, xors};
-ghost use Rattle.aes.specs.Words.{wordsOf};
-ghost use Rattle.modes.specs.Blocks.{octetsOf};
+ghost use Rattle.aes.specs.Cipher.{cipher};
+ghost use Rattle.aes.specs.Words.{blockOctets, wordsOf};
 use aes::Block;
 use aes::Schedule;
 
@@ -15,7 +14,7 @@ pub trait BlockCipher {
     ghost ciph: { Self → List ℕ → List ℕ };
 
     fn encrypt(&self, block: Block) -> Block
-        ensures { λ r. ⌜ octetsOf r ≡ ciph (now (self .entry)) (octetsOf block) ⌝ };
+        ensures { λ r. ⌜ blockOctets r ≡ ciph (now (self .entry)) (blockOctets block) ⌝ };
 }
 
 pub impl BlockCipher for Schedule as AesCipher {
@@ -34,16 +33,9 @@ pub const ZEROS: Block = Block {
     d: 0,
 };
 
-// Exclusive or of two blocks.
-pub fn sum(x: Block, y: Block) -> Block
-    ensures { λ r. ⌜ octetsOf r ≡ xors (octetsOf x) (octetsOf y) ⌝ }
-{
-    x.plus(y)
-}
-
 // The number that the octets of a block write.
 pub fn number_of(block: Block) -> u128
-    ensures { λ r. ⌜ r ≡ number 256 (octetsOf block) ⌝ }
+    ensures { λ r. ⌜ r ≡ number 256 (blockOctets block) ⌝ }
 {
     let high = (block.a as u64) * 0x1_0000_0000 + block.b as u64;
     let low = (block.c as u64) * 0x1_0000_0000 + block.d as u64;
@@ -52,7 +44,7 @@ pub fn number_of(block: Block) -> u128
 
 // The block of eight octets of one number and eight of another.
 pub fn block_of(high: u64, low: u64) -> Block
-    ensures { λ r. ⌜ octetsOf r ≡ octets 8 high ++ octets 8 low ⌝ }
+    ensures { λ r. ⌜ blockOctets r ≡ octets 8 high ++ octets 8 low ⌝ }
 {
     Block {
         a: (high >> 32) as u32,

@@ -6,19 +6,18 @@ ghost use Prim.Native.Nat.{ℕ, _+_, _<_, _≤_};
 ghost use lib.ListN.{length};
 ghost use Rattle.std.specs.Iters.{counting};
 ghost use Rattle.octets.specs.Octets.{octets};
-ghost use Rattle.modes.specs.Blocks.{octetsOf};
+ghost use Rattle.aes.specs.Words.{blockOctets};
 ghost use Rattle.modes.specs.Cmac.{cmacOf, doubled, subkey1, subkey2};
 ghost use Rattle.modes.specs.Texts.{octetFrom};
 use crate::block::BlockCipher;
 use crate::block::ZEROS;
 use crate::block::block_of;
 use crate::block::number_of;
-use crate::block::sum;
 use aes::Block;
 
 // Twice a block in the field of 2^128 elements, without a branch.
 fn doubled(block: Block) -> Block
-    ensures { λ r. ⌜ octetsOf r ≡ doubled (octetsOf block) ⌝ }
+    ensures { λ r. ⌜ blockOctets r ≡ doubled (blockOctets block) ⌝ }
 {
     let x = number_of(block);
     let y = (x << 1) ^ ((x >> 127) * 0x87);
@@ -27,7 +26,7 @@ fn doubled(block: Block) -> Block
 
 // The subkey for a last block that is whole, or for one that is not.
 fn subkey<C: BlockCipher>(cipher: &C, whole: bool) -> Block
-    ensures { λ r. ⌜ octetsOf r ≡ cond whole (subkey1 (ciph (now (cipher .entry)))) (subkey2 (ciph (now (cipher .entry)))) ⌝ }
+    ensures { λ r. ⌜ blockOctets r ≡ cond whole (subkey1 (ciph (now (cipher .entry)))) (subkey2 (ciph (now (cipher .entry)))) ⌝ }
 {
     let first = doubled(cipher.encrypt(ZEROS));
     if whole { first } else { doubled(first) }
@@ -69,7 +68,7 @@ fn eight_from(head: &[u8], message: &[u8], start: usize, k: usize) -> u64
 // The block of a text that begins at `start`, filled up with 80 and zeros where the text ends in it.
 fn block_from(head: &[u8], message: &[u8], start: usize) -> Block
     requires inside { ⌜ start ≤ length (now head) + length (now message) ⌝ }
-    ensures { λ r. ⌜ octetsOf r ≡ map (octetFrom (now (head .entry) ++ now (message .entry)) start) (counting 0 16) ⌝ }
+    ensures { λ r. ⌜ blockOctets r ≡ map (octetFrom (now (head .entry) ++ now (message .entry)) start) (counting 0 16) ⌝ }
 {
     let high = eight_from(head, message, start, 0);
     let low = eight_from(head, message, start, 8);
@@ -78,18 +77,15 @@ fn block_from(head: &[u8], message: &[u8], start: usize) -> Block
 
 // The tag of the text that is `head` and then `message`.
 pub fn cmac<C: BlockCipher>(cipher: &C, head: &[u8], message: &[u8]) -> Block
-    ensures { λ r. ⌜ octetsOf r ≡ cmacOf (ciph (now (cipher .entry))) (now (head .entry) ++ now (message .entry)) ⌝ }
+    ensures { λ r. ⌜ blockOctets r ≡ cmacOf (ciph (now (cipher .entry))) (now (head .entry) ++ now (message .entry)) ⌝ }
 {
     let len = head.len() + message.len();
     let before = len.saturating_sub(1) / 16;
     let mut state = ZEROS;
     for i in 0..before {
-        state = cipher.encrypt(sum(state, block_from(head, message, 16 * i)));
+        state = cipher.encrypt(state.plus(block_from(head, message, 16 * i)));
     }
     let start = 16 * before;
-    let last = sum(
-        block_from(head, message, start),
-        subkey(cipher, len - start == 16),
-    );
-    cipher.encrypt(sum(state, last))
+    let last = block_from(head, message, start).plus(subkey(cipher, len - start == 16));
+    cipher.encrypt(state.plus(last))
 }

@@ -1,8 +1,8 @@
 use mathlib.Core.Path.{_≡_, refl}
 use native.Mathlib.Omega.{arith}
-use Rattle.aes.specs.Cipher.{rounds}
+use Rattle.aes.specs.Cipher.{addRoundKey, rounds, cipher}
 use Rattle.aes.specs.Words.{blockOctets, wordsOf}
-use Rattle.aes.proofs.Rounds.{rounds-more, rounds-all}
+use Rattle.aes.proofs.Rounds.{rounds-more}
 use Rattle.aes.proofs.Schedule.encrypt.Needs as need
 
 pub loop-r-holds : need.loop-r-holds
@@ -15,7 +15,5 @@ loop-r-again c =
     (c .round-key-in-loop-r .ensures) (c .plus-state-in-loop-r .ensures)
 
 pub returns : need.returns
-returns c =
-    let n : c .loop-r .r ≡ 9 = omega arith in
-    rounds-all (wordsOf (c .args .self .now)) (blockOctets (c .args .block)) _ _ _ _ _ _ (c .loop-r .r) (c .round-key .ensures) (c .plus-state .ensures)
-    (c .loop-r .inv) n (c .shifted .ensures) (c .round-key-2 .ensures) (c .plus .ensures)
+unfolding cipher addRoundKey
+returns c = let n : c .loop-r .r ≡ 9 = omega arith in cc

@@ -1,10 +1,12 @@
 use Prim.Native.Nat.{_+_, _*_}
 use native.Mathlib.Omega.{arith}
 use borrow.Author.Needs.{needs}
+use Rattle.aes.specs.Words.{blockOctets, wordsOf}
 use Rattle.aes.proofs.Rounds.{block-is, word-is}
 use Rattle.aes.proofs.Schedule.round_key.Needs as need
 
 pub returns : need.returns
+unfolding blockOctets wordsOf
 returns c =
     let words = c .args .self .now .words in
     let i = 4 * c .args .r in

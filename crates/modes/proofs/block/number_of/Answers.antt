@@ -1,7 +1,7 @@
 use borrow.Author.Needs.{needs}
-use Rattle.modes.specs.Blocks.{octetsOf}
+use Rattle.aes.specs.Words.{blockOctets}
 use Rattle.modes.proofs.block.number_of.Needs as need
 
 pub returns : need.returns
-unfolding octetsOf
+unfolding blockOctets
 returns c = search needs

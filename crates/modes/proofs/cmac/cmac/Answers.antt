@@ -15,7 +15,7 @@ loop-i-again g c =
     let n = length-append (c .args .head .now) (c .args .message .now) in
     let s = c .saturating-sub-before .ensures in
     chained-more (g .C·BlockCipher .ciph (c .args .cipher .now)) (c .args .head .now ++ c .args .message .now) _ _ _ _ (c .loop-i .i) (omega arith)
-    (c .loop-i .inv) (c .block-from .ensures) (c .sum .ensures) (c .encrypt-state .ensures)
+    (c .loop-i .inv) (c .block-from .ensures) (c .plus .ensures) (c .encrypt-state .ensures)
 
 pub returns : need.returns
 returns g c =
@@ -27,4 +27,4 @@ returns g c =
     let state = rw at at (c .loop-i .inv) in
     let key = rw (← n) at (c .subkey .ensures) in
     cmac-is (g .C·BlockCipher .ciph (c .args .cipher .now)) text _ _ _ _ _ _ before (omega arith) state (c .block-from-2 .ensures) key
-    (c .sum-last .ensures) (c .sum-2 .ensures) (c .encrypt .ensures)
+    (c .plus-last .ensures) (c .plus-2 .ensures) (c .encrypt .ensures)
