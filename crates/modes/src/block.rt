@@ -6,6 +6,7 @@ ghost use Rattle.std.specs.shelf.Digits.{number};
 ghost use Rattle.octets.specs.Octets.{octets};
 ghost use Rattle.aes.specs.Cipher.{cipher};
 ghost use Rattle.aes.specs.Words.{blockOctets, wordsOf};
+ghost use Rattle.modes.specs.Cmac.{zeros};
 use aes::Block;
 use aes::Schedule;
 
@@ -26,12 +27,16 @@ pub impl BlockCipher for Schedule as AesCipher {
 }
 
 // The block of sixteen octets 00.
-pub const ZEROS: Block = Block {
-    a: 0,
-    b: 0,
-    c: 0,
-    d: 0,
-};
+pub fn zero_block() -> Block
+    ensures { λ r. ⌜ blockOctets r ≡ zeros ⌝ }
+{
+    Block {
+        a: 0,
+        b: 0,
+        c: 0,
+        d: 0,
+    }
+}
 
 // The number that the octets of a block write.
 pub fn number_of(block: Block) -> u128

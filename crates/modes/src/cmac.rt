@@ -10,9 +10,9 @@ ghost use Rattle.aes.specs.Words.{blockOctets};
 ghost use Rattle.modes.specs.Cmac.{cmacOf, doubled, subkey1, subkey2};
 ghost use Rattle.modes.specs.Texts.{octetFrom};
 use crate::block::BlockCipher;
-use crate::block::ZEROS;
 use crate::block::block_of;
 use crate::block::number_of;
+use crate::block::zero_block;
 use aes::Block;
 
 // Twice a block in the field of 2^128 elements, without a branch.
@@ -28,7 +28,7 @@ fn doubled(block: Block) -> Block
 fn subkey<C: BlockCipher>(cipher: &C, whole: bool) -> Block
     ensures { λ r. ⌜ blockOctets r ≡ cond whole (subkey1 (ciph (now (cipher .entry)))) (subkey2 (ciph (now (cipher .entry)))) ⌝ }
 {
-    let first = doubled(cipher.encrypt(ZEROS));
+    let first = doubled(cipher.encrypt(zero_block()));
     if whole { first } else { doubled(first) }
 }
 
@@ -81,7 +81,7 @@ pub fn cmac<C: BlockCipher>(cipher: &C, head: &[u8], message: &[u8]) -> Block
 {
     let len = head.len() + message.len();
     let before = len.saturating_sub(1) / 16;
-    let mut state = ZEROS;
+    let mut state = zero_block();
     for i in 0..before {
         state = cipher.encrypt(state.plus(block_from(head, message, 16 * i)));
     }

@@ -7,4 +7,6 @@ mod refusals;
 #[cfg(test)]
 mod round_trips;
 #[cfg(test)]
+mod suites;
+#[cfg(test)]
 mod vectors;

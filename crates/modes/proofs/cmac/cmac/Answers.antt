@@ -3,12 +3,11 @@ use mathlib.Core.List.{_++_}
 use native.Mathlib.Omega.{arith}
 use Prim.Native.Nat.{_/_}
 use lib.ListN.{length, length-append}
-use Rattle.modes.proofs.Blocks.{zeros-are}
 use Rattle.modes.proofs.Chains.{chained-none, chained-more, cmac-is}
 use Rattle.modes.proofs.cmac.cmac.Needs as need
 
 pub loop-i-holds : need.loop-i-holds
-loop-i-holds g c = zeros-are ∙ sym (chained-none (g .C·BlockCipher .ciph (c .args .cipher .now)) (c .args .head .now ++ c .args .message .now))
+loop-i-holds g c = c .zero-block-state .ensures ∙ sym (chained-none (g .C·BlockCipher .ciph (c .args .cipher .now)) (c .args .head .now ++ c .args .message .now))
 
 pub loop-i-again : need.loop-i-again
 loop-i-again g c =
