@@ -6,8 +6,8 @@ set -eu
 cd "$(dirname "$0")/.."
 work=$(mktemp -d)
 trap 'rm -rf "$work"' EXIT
-rt check suite_cost > "$work/log" 2>&1 || { cat "$work/log"; exit 1; }
-cp target/bin/suite_cost "$work/newtcobalt"
+rt check suite_runs > "$work/log" 2>&1 || { cat "$work/log"; exit 1; }
+cp target/bin/suite_runs "$work/newtcobalt"
 cc -O2 -DTOMCRYPT tools/suite_cost.c -o "$work/libtomcrypt" -ltomcrypt
 cc -O2 -DMBEDTLS tools/suite_cost.c -o "$work/mbedtls" -lmbedcrypto
 cc -O2 -DOPENSSL tools/suite_cost.c -o "$work/openssl" -lcrypto
@@ -15,7 +15,7 @@ count() {
     valgrind --tool=callgrind --callgrind-out-file=/dev/null "$@" 2>&1 | sed -n 's/.*Collected : //p'
 }
 for name in newtcobalt libtomcrypt mbedtls openssl; do
-    few=$(count "$work/$name" 100)
-    many=$(count "$work/$name" 1100)
-    echo "$name: $(((many - few) / 1000)) instructions, answer $("$work/$name" 1100)"
+    few=$(count "$work/$name" cost 100)
+    many=$(count "$work/$name" cost 1100)
+    echo "$name: $(((many - few) / 1000)) instructions, answer $("$work/$name" cost 1100)"
 done

@@ -1,4 +1,4 @@
-/* The work of crates/suite_cost with another library, as often as the first argument says: a CMAC over 42 octets and
+/* The work of crates/suite_runs, `cost`, with another library, as often as the second argument says: a CMAC over 42 octets and
    counter mode over 37, both keys given with each message. Chosen by -DTOMCRYPT, -DMBEDTLS or -DOPENSSL. */
 #include <stdio.h>
 #include <stdlib.h>
@@ -65,7 +65,7 @@ static void encipher(const unsigned char *key, const unsigned char *start, unsig
 int main(int argc, char **argv) {
     static const unsigned char integrity[16] = {0x2B, 0x7E, 0x15, 0x16, 0x28, 0xAE, 0xD2, 0xA6, 0xAB, 0xF7, 0x15, 0x88, 0x09, 0xCF, 0x4F, 0x3C};
     static const unsigned char encryption[16] = {0, 1, 2, 3, 4, 5, 6, 7, 8, 9, 10, 11, 12, 13, 14, 15};
-    unsigned long times = argc > 1 ? strtoul(argv[1], NULL, 10) : 0;
+    unsigned long times = argc > 2 ? strtoul(argv[2], NULL, 10) : 0;
     unsigned char message[37], tags = 0;
     memset(message, 0x5A, sizeof message);
     begin();

@@ -1304,21 +1304,21 @@ const ADDENDS: [[u32; 256]; 4] = [
 // The powers of x, from x to the power 0.
 const ROUND_CONSTANTS: [u8; 10] = [0x01, 0x02, 0x04, 0x08, 0x10, 0x20, 0x40, 0x80, 0x1b, 0x36];
 
-pub fn substitute(x: u8) -> u8
+pub(crate) fn substitute(x: u8) -> u8
     ensures { λ r. ⌜ r ≡ sbox x ⌝ }
 {
     SBOX[x as usize]
 }
 
 // What an octet in row k, substituted, adds to its mixed column.
-pub fn row_addends(k: usize, x: u8) -> u32
+pub(crate) fn row_addends(k: usize, x: u8) -> u32
     requires { ⌜ k < 4 ⌝ }
     ensures { λ r. ⌜ octets 4 r ≡ addends k (sbox x) ⌝ }
 {
     ADDENDS[k][x as usize]
 }
 
-pub fn round_constant(r: usize) -> u8
+pub(crate) fn round_constant(r: usize) -> u8
     requires { ⌜ r < 10 ⌝ }
     ensures { λ x. ⌜ x ≡ rcon r ⌝ }
 {

@@ -13,11 +13,11 @@ use Rattle.std.specs.shelf.Digits.{number, Under}
 use Rattle.std.specs.shelf.Lists.{joined}
 use Rattle.std.proofs.shelf.Counted.{getD-map-counting, length-map-counting}
 use Rattle.std.proofs.shelf.Digits.{number-lt}
-use Rattle.std.proofs.shelf.Elements.{all-append, all-take, all-drop}
+use Rattle.std.proofs.shelf.Elements.{all-take, all-drop}
 use Rattle.std.proofs.shelf.Lists.{length-map}
 use Rattle.std.proofs.shelf.Tests.{cond-both}
 use Rattle.octets.specs.Octets.{octets}
-use Rattle.octets.proofs.Numbers.{length-octets, under-octets}
+use Rattle.octets.proofs.Numbers.{length-octets, under-append, under-octets}
 use Rattle.aes.specs.Field.{affine, affineBit, inverse, sbox}
 use Rattle.aes.specs.Cipher.{xors, column, shifted, subBytes, shiftRows, addRoundKey, roundKey, rounds, cipher, rotWord, subWord, rcon, added, keyWord, keyExpansion, aes}
 use Rattle.aes.specs.Words.{keyOctets}
@@ -28,13 +28,10 @@ pub record Octets (n : ℕ) (xs : List ℕ) : Type 0 where
   pub long : length xs ≡ n
   pub under : Under 256 xs
 
-under-both : (xs ys : List ℕ) → Under 256 xs → Under 256 ys → Under 256 (xs ++ ys)
-under-both xs ys = all-append (λ d. d < 256) xs ys
-
 append-octets : (n m : ℕ) (xs ys : List ℕ) → Octets n xs → Octets m ys → Octets (n + m) (xs ++ ys)
 append-octets n m xs ys a b = record {
   long = length-append xs ys ∙ (let x = a .long in let y = b .long in omega arith);
-  under = under-both xs ys (a .under) (b .under);
+  under = under-append xs ys (a .under) (b .under);
 }
 
 number-octets : (n c : ℕ) → Octets n (octets n c)

@@ -8,10 +8,9 @@ use lib.Bits.{bitXor, xor-lt, xor-zero-r}
 use lib.Dec.{ltb}
 use lib.ListN.{length}
 use Rattle.std.specs.shelf.Digits.{number, Under}
-use Rattle.std.proofs.shelf.Elements.{all-append}
 use Rattle.std.proofs.shelf.Ways.{leb-tells}
 use Rattle.octets.specs.Octets.{octets}
-use Rattle.octets.proofs.Numbers.{octets-join, under-octets}
+use Rattle.octets.proofs.Numbers.{octets-join, under-append, under-octets}
 use Rattle.aes.specs.declared.Block.{Block}
 use Rattle.aes.specs.Words.{blockOctets}
 use Rattle.modes.specs.Cmac.{twice, doubled, zeros}
@@ -50,16 +49,12 @@ pub zeros-are : blockOctets (record { a = 0; b = 0; c = 0; d = 0 }) ≡ zeros
 unfolding blockOctets
 zeros-are = refl
 
--- octets one behind the other
-under-both : (xs ys : List ℕ) → Under 256 xs → Under 256 ys → Under 256 (xs ++ ys)
-under-both xs ys u v = all-append (λ d. d < 256) xs ys u v
-
 -- a block has sixteen octets
 pub octets-whole : (b : Block) → (length (blockOctets b) ≡ 16) × Under 256 (blockOctets b)
 unfolding blockOctets
 octets-whole b =
     let w : ℕ → List ℕ = octets 4 in
-    let d = under-both (w (b .d)) [] (under-octets 4 (b .d)) tt in
-    let c = under-both (w (b .c)) (w (b .d) ++ []) (under-octets 4 (b .c)) d in
-    let e = under-both (w (b .b)) (w (b .c) ++ (w (b .d) ++ [])) (under-octets 4 (b .b)) c in
-    (refl, under-both (w (b .a)) (w (b .b) ++ (w (b .c) ++ (w (b .d) ++ []))) (under-octets 4 (b .a)) e)
+    let d = under-append (w (b .d)) [] (under-octets 4 (b .d)) tt in
+    let c = under-append (w (b .c)) (w (b .d) ++ []) (under-octets 4 (b .c)) d in
+    let e = under-append (w (b .b)) (w (b .c) ++ (w (b .d) ++ [])) (under-octets 4 (b .b)) c in
+    (refl, under-append (w (b .a)) (w (b .b) ++ (w (b .c) ++ (w (b .d) ++ []))) (under-octets 4 (b .a)) e)

@@ -15,7 +15,7 @@ use Rattle.std.proofs.shelf.Digits.{number-push}
 use Rattle.std.proofs.shelf.Lists.{getD-append-left, getD-append-right, getD-at, getD-drop, getD-replicate, getD-take}
 use Rattle.std.proofs.shelf.Tests.{cases-order, cond-true, cond-false, eq-eqb, le-ltb, lt-ltb, ne-eqb}
 use Rattle.octets.specs.Octets.{octets}
-use Rattle.octets.proofs.Numbers.{octets-number, room, under-push}
+use Rattle.octets.proofs.Numbers.{octets-number, room, under-append}
 use Rattle.modes.specs.Cmac.{filled}
 use Rattle.modes.specs.Texts.{octetFrom}
 
@@ -64,7 +64,7 @@ reads-more f k i n x was x-is small =
     let more : map f (counting k (i + 1)) ≡ xs ++ (x ∷ []) = map-counting-more f k i (k + i) refl ∙ ap (λ y. xs ++ (y ∷ [])) (sym x-is) in
     record {
       is = ap (λ m. m * 256 + x) (was .is) ∙ sym (number-push 256 xs x) ∙ ap (number 256) (sym more);
-      under = subst (Under 256) (sym more) (under-push xs x (was .under) small);
+      under = subst (Under 256) (sym more) (under-append xs (x ∷ []) (was .under) (small, tt));
       holds = room (i + 1) i n x (omega arith) (was .holds) small .1;
     }
 

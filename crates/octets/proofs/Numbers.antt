@@ -12,6 +12,7 @@ use Rattle.std.specs.shelf.Digits.{number, numberAfter, Under}
 use Rattle.std.specs.shelf.Lists.{All}
 use Rattle.std.proofs.shelf.Bits.{div-add-mod', shr-below}
 use Rattle.std.proofs.shelf.Digits.{number-push}
+use Rattle.std.proofs.shelf.Elements.{all-append}
 use Rattle.std.proofs.shelf.Lists.{append-assoc, append-nil, getD-append-left, getD-at, length-push}
 use Rattle.std.proofs.shelf.Tests.{cases-lt}
 use Rattle.std.proofs.shelf.Ways.{leb-tells}
@@ -85,14 +86,13 @@ room w i c x h l b =
     let m = pow-more i in
     (omega arith, omega arith)
 
--- an octet more behind octets
-pub under-push : (xs : List ℕ) (x : ℕ) → Under 256 xs → x < 256 → Under 256 (xs ++ (x ∷ []))
-under-push [] x u h = (h, tt)
-under-push (y ∷ xs) x u h = (u .0, under-push xs x (u .1) h)
+-- octets one behind the other
+pub under-append : (xs ys : List ℕ) → Under 256 xs → Under 256 ys → Under 256 (xs ++ ys)
+under-append xs ys = all-append (λ d. d < 256) xs ys
 
 pub under-octets : (n c : ℕ) → Under 256 (octets n c)
 under-octets zero c = tt
-under-octets (suc n) c = under-push (octets n (c / 256)) (c % 256) (under-octets n (c / 256)) (omega arith)
+under-octets (suc n) c = under-append (octets n (c / 256)) (c % 256 ∷ []) (under-octets n (c / 256)) (omega arith, tt)
 
 -- the octet at a place of octets, from the number that they write
 pub octet-at : (xs : List ℕ) (i : ℕ) → Under 256 xs → i < length xs → getD xs i 0 ≡ number 256 xs / 2 ^ (8 * (length xs - 1 - i)) % 256

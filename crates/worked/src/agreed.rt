@@ -10,7 +10,7 @@ use wire::parties::Plane;
 use wire::parties::Role;
 
 // Integrity key sixteen octets 10, encryption key sixteen octets 20.
-pub fn protection(sender: Role, tag: TagLength, length: DataLength) -> Protection {
+pub(crate) fn protection(sender: Role, tag: TagLength, length: DataLength) -> Protection {
     Protection {
         keys: Keyset {
             integrity0: 0x1010_1010_1010_1010,
@@ -24,11 +24,11 @@ pub fn protection(sender: Role, tag: TagLength, length: DataLength) -> Protectio
 }
 
 // From the logger, M 4 and D 1.
-pub fn usual() -> Protection {
+pub(crate) fn usual() -> Protection {
     protection(Role::Logger, TagLength::Four, DataLength::One)
 }
 
-pub fn header(plane: Plane, key: u8, counter: u32, number: u32) -> Header {
+pub(crate) fn header(plane: Plane, key: u8, counter: u32, number: u32) -> Header {
     Header {
         plane,
         key,

@@ -1,10 +1,9 @@
-// Prints what the AES suite makes of as many random messages as the first argument says, for another implementation to compare.
+// What the AES suite makes of random messages, for another implementation to compare.
 // A line has the two keys, count, bearer, direction, tag, the message and the message enciphered, in hexadecimal; - is no octets.
 ghost use Prim.Native.Nat.{_<_};
 use aes_suite::Aes;
 use aes_suite::AesSuite;
 use std::alloc::Global;
-use std::env;
 use std::fmt::Write;
 use std::io;
 use suite::Inputs;
@@ -38,15 +37,6 @@ impl Random {
     }
 }
 
-fn times(rt: &LibcRuntime) -> io::Result<u32> {
-    for (i, word) in env::args(rt)?.enumerate() {
-        if i == 1 {
-            return Ok(word.as_str().parse::<u32>().unwrap_or(0));
-        }
-    }
-    Ok(0)
-}
-
 fn octets(heap: Global, octets: &[u8]) -> io::Result<String> {
     let mut text = String::new(heap);
     if octets.len() == 0 {
@@ -58,7 +48,7 @@ fn octets(heap: Global, octets: &[u8]) -> io::Result<String> {
     Ok(text)
 }
 
-fn trace(rt: &LibcRuntime, random: &mut Random, message: &mut [u8]) -> io::Result<()> {
+fn one(rt: &LibcRuntime, random: &mut Random, message: &mut [u8]) -> io::Result<()> {
     let keys = Keyset {
         integrity0: random.next(),
         integrity1: random.next(),
@@ -91,12 +81,12 @@ fn traces(rt: &LibcRuntime, times: u32, buffer: &mut [u8]) -> io::Result<()> {
     let mut random = Random { state: 20261117 };
     for _ in 0..times {
         let len = random.below(buffer.len() as u64 + 1) as usize;
-        trace(rt, &mut random, &mut buffer[0..len])?;
+        one(rt, &mut random, &mut buffer[0..len])?;
     }
     Ok(())
 }
 
-fn main(rt: LibcRuntime) -> io::Result<()> {
+pub fn run(rt: &LibcRuntime, times: u32) -> io::Result<()> {
     let mut buffer = [0u8; LONGEST];
-    traces(&rt, times(&rt)?, &mut buffer)
+    traces(rt, times, &mut buffer)
 }

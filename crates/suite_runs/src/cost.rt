@@ -1,7 +1,6 @@
-// Tags and enciphers one message with the AES suite as often as the first argument says, so that instructions can be counted.
+// One message tagged and enciphered again and again, so that instructions can be counted.
 use aes_suite::Aes;
 use aes_suite::AesSuite;
-use std::env;
 use std::io;
 use suite::Inputs;
 use suite::Keyset;
@@ -11,15 +10,6 @@ use suite::Suite;
 const TAGGED: usize = 34;
 
 const ENCIPHERED: usize = 37;
-
-fn times(rt: &LibcRuntime) -> io::Result<u32> {
-    for (i, word) in env::args(rt)?.enumerate() {
-        if i == 1 {
-            return Ok(word.as_str().parse::<u32>().unwrap_or(0));
-        }
-    }
-    Ok(0)
-}
 
 // Both keys are given with each message, so both are expanded each time.
 fn once(keys: Keyset, count: u32, message: &mut [u8; ENCIPHERED]) -> u8 {
@@ -33,7 +23,8 @@ fn once(keys: Keyset, count: u32, message: &mut [u8; ENCIPHERED]) -> u8 {
     tag[0]
 }
 
-fn main(rt: LibcRuntime) -> io::Result<()> {
+// Prints what depends on every message, so that none is left out.
+pub fn run(rt: &LibcRuntime, times: u32) -> io::Result<()> {
     let keys = Keyset {
         integrity0: 0x2B7E151628AED2A6,
         integrity1: 0xABF7158809CF4F3C,
@@ -42,7 +33,7 @@ fn main(rt: LibcRuntime) -> io::Result<()> {
     };
     let mut message = [0x5Au8; ENCIPHERED];
     let mut tags = 0u8;
-    for count in 0..times(&rt)? {
+    for count in 0..times {
         tags ^= once(keys, count, &mut message);
     }
     let last = message[0];
