@@ -1,16 +1,14 @@
 -- What AES gives is sixteen octets. Assumes nothing.
 use mathlib.Core.Path.{_≡_, refl, sym, ap, subst, _∙_}
-use mathlib.Core.Bool.{cond}
 use mathlib.Core.List.{List, [], _∷_, _++_, map, reverse}
-use Prim.Native.Nat.{ℕ, zero, suc, _+_, _*_, _/_, _%_, _^_, _<_, _≤_}
+use Prim.Native.Nat.{ℕ, zero, suc, _+_, _*_, _/_, _%_, _<_, _≤_}
 use native.Mathlib.Omega.{arith}
-use lib.Bits.{bitXor, xor-lt}
+use lib.Bits.{xor-lt}
 use lib.Dec.{eqb}
 use lib.ListN.{length, getD, take, drop, length-append, length-drop}
 use lib.Seq.{length-take-le}
 use Rattle.std.specs.Iters.{counting}
-use Rattle.std.specs.shelf.Digits.{number, Under}
-use Rattle.std.specs.shelf.Lists.{joined}
+use Rattle.std.specs.shelf.Digits.{Under}
 use Rattle.std.proofs.shelf.Counted.{getD-map-counting, length-map-counting}
 use Rattle.std.proofs.shelf.Digits.{number-lt}
 use Rattle.std.proofs.shelf.Elements.{all-take, all-drop}

@@ -1,9 +1,6 @@
 // The AES suite, 128-EIA2 and 128-EEA2, and the clear suite, which has the same tag and enciphers nothing.
 ghost use mathlib.Core.Path.{_≡_};
-ghost use mathlib.Core.List.{_++_};
-ghost use Prim.Native.Nat.{_<_};
-ghost use Rattle.octets.specs.Octets.{octets};
-ghost use Rattle.suite.specs.Ciphers.{enciphered, padded};
+ghost use Rattle.suite.specs.Ciphers.{padded};
 ghost use Rattle.aes_suite.specs.Suites.{tagSize, startOf, eea2, eia2, eea0};
 use aes::Schedule;
 use modes::block::AesCipher;

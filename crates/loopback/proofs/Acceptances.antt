@@ -1,20 +1,19 @@
 -- What is opened is a message. Assumes nothing.
 use mathlib.Core.Path.{_≡_, refl, sym, ap, subst, _∙_}
-use mathlib.Core.Bool.{Bool, true, false}
+use mathlib.Core.Bool.{true}
 use mathlib.Core.Logic.{_⊎_, inl, inr}
 use mathlib.Core.List.{List, [], _∷_, _++_}
 use Prim.Native.Nat.{ℕ, _+_, _-_, _*_, _^_, _<_, _≤_}
 use native.Mathlib.Omega.{arith}
 use lib.Bits.{xor-lt}
-use lib.Dec.{eqb, ltb, leb}
+use lib.Dec.{eqb, leb}
 use lib.ListN.{length, take, drop, replicate, length-append, length-drop}
 use lib.Seq.{take-append-le, take-at, drop-at, length-take-le}
 use Rattle.std.specs.Holes.{between}
 use Rattle.std.specs.shelf.Digits.{number, Under}
-use Rattle.std.specs.shelf.Text.{sameBytes}
 use Rattle.std.specs.declared.result.Result.{Result}
-use Rattle.std.specs.declared.result.Result.the-variants.{Ok, Err}
-use Rattle.std.proofs.shelf.Elements.{all-take, all-drop, all-append}
+use Rattle.std.specs.declared.result.Result.the-variants.{Ok}
+use Rattle.std.proofs.shelf.Elements.{all-take, all-drop}
 use Rattle.std.proofs.shelf.Equals.{sameBytes-decides}
 use Rattle.std.proofs.shelf.Lists.{append-assoc, nil-from-length, take-append-drop}
 use Rattle.std.proofs.shelf.Tests.{eqb-true, le-leb, leb-true, lt-ltb, or-cases}
@@ -31,7 +30,6 @@ use Rattle.wire.specs.declared.parties.Plane.{Plane}
 use Rattle.wire.specs.declared.parties.Plane.the-variants.{Control, User}
 use Rattle.wire.specs.declared.front.Header.{Header}
 use Rattle.wire.specs.declared.front.Front.{Front}
-use Rattle.wire.specs.FrontLaws.{Begins}
 use Rattle.wire.specs.Fronts.{front, frontRead}
 use Rattle.wire.specs.Ids.{idOctets}
 use Rattle.wire.specs.Limits.{longestMessage}
@@ -50,7 +48,7 @@ use Rattle.loopback.specs.MessageLaws.{Carries, contentIn, Opened-as-sealed}
 use Rattle.message.specs.Messages.{Keystream, Tag, bodyOf, tagFor, clearRest, message}
 use Rattle.message.specs.Opens.{cleared, tagMatches, lengthMatches, checked, openedAs, bodyAnswer, openAnswer, openBuffer}
 use Rattle.message.specs.Seals.{hasContent}
-use Rattle.loopback.proofs.Openings.{Parts, clear-parts, opened-by, each, back}
+use Rattle.loopback.proofs.Openings.{clear-parts, opened-by, each, back}
 use Rattle.message.proofs.Writes.{length-front}
 
 under-enciphered : (f : ℕ → ℕ) (i : ℕ) (xs : List ℕ) → ((place : ℕ) → f place < 256) → Under 256 xs → Under 256 (enciphered f i xs)

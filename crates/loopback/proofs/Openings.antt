@@ -1,18 +1,18 @@
 -- Each message is opened, with its header and content. Assumes nothing.
-use mathlib.Core.Path.{_≡_, refl, sym, ap, _∙_}
-use mathlib.Core.Bool.{Bool, true, false, cond, _&&_, _||_}
+use mathlib.Core.Path.{_≡_, refl, ap, _∙_}
+use mathlib.Core.Bool.{true, _&&_}
 use mathlib.Core.Logic.{_⊎_, inl, inr}
 use mathlib.Core.List.{List, [], _∷_, _++_}
-use Prim.Native.Nat.{ℕ, suc, _+_, _-_, _*_, _^_, _<_, _≤_}
+use Prim.Native.Nat.{ℕ, _+_, _-_, _*_, _^_, _<_, _≤_}
 use native.Mathlib.Omega.{arith}
-use lib.Dec.{eqb, ltb, leb}
+use lib.Dec.{eqb, leb}
 use lib.ListN.{length, take, drop, length-append}
 use lib.Seq.{take-at, drop-at, length-take-le}
 use Rattle.std.specs.Holes.{between}
 use Rattle.std.specs.shelf.Digits.{number}
 use Rattle.std.specs.shelf.Text.{sameBytes}
 use Rattle.std.specs.declared.result.Result.{Result}
-use Rattle.std.specs.declared.result.Result.the-variants.{Ok, Err}
+use Rattle.std.specs.declared.result.Result.the-variants.{Ok}
 use Rattle.std.proofs.shelf.Equals.{sameBytes-decides}
 use Rattle.std.proofs.shelf.Lists.{append-assoc, append-nil}
 use Rattle.std.proofs.shelf.Tests.{and-parts, eq-eqb, le-leb, leb-true, ltb-true, or-left, or-right}
@@ -27,7 +27,7 @@ use Rattle.wire.specs.declared.parties.Plane.{Plane}
 use Rattle.wire.specs.declared.parties.Plane.the-variants.{Control, User}
 use Rattle.wire.specs.declared.front.Header.{Header}
 use Rattle.wire.specs.declared.front.Front.{Front}
-use Rattle.wire.specs.FrontLaws.{Writable, Counts, Begins}
+use Rattle.wire.specs.FrontLaws.{Begins}
 use Rattle.wire.specs.Fronts.{firstOctet, front, frontRead, counterOctets}
 use Rattle.wire.specs.Ids.{idOctets, isId}
 use Rattle.wire.specs.Limits.{longestCounter, longestMessage}
@@ -39,14 +39,13 @@ use Rattle.framing.specs.declared.format.TagLength.the-variants.{Four, Eight, T
 use Rattle.framing.specs.declared.format.Format.{Format}
 use Rattle.framing.specs.declared.format.Protection.{Protection}
 use Rattle.framing.specs.declared.layout.Layout.{Layout}
-use Rattle.message.specs.declared.open.Opened.{Opened}
 use Rattle.framing.specs.Formats.{tagOctets, dataOctets, leadOf, leastOf, inputsOf}
 use Rattle.framing.specs.Layouts.{dataFits, sealedLength, planLayout, planned, readLayout, located}
-use Rattle.loopback.specs.MessageLaws.{Carries, Opens, contentIn}
+use Rattle.loopback.specs.MessageLaws.{Carries, Opens}
 use Rattle.message.specs.Messages.{Keystream, Tag, bodyOf, tagFor, clearRest, message}
 use Rattle.message.specs.Opens.{cleared, tagMatches, lengthMatches, checked, openedAs, bodyAnswer, openAnswer, openBuffer}
-use Rattle.message.specs.Seals.{hasContent, inRange, sealAnswer, sealBuffer, over}
-use Rattle.message.proofs.Writes.{length-front, length-body, front-planned}
+use Rattle.message.specs.Seals.{hasContent, inRange, sealAnswer, sealBuffer}
+use Rattle.message.proofs.Writes.{length-front, length-body}
 
 pub tag-short : (t : TagLength) → tagOctets t ≤ longestTag
 tag-short Four = omega arith

@@ -1,5 +1,5 @@
 -- A message that is sealed and opened again returns. Assumes nothing.
-use mathlib.Core.Path.{_≡_, refl, sym, ap, subst, _∙_}
+use mathlib.Core.Path.{_≡_, sym, ap, subst, _∙_}
 use mathlib.Core.List.{List, _++_}
 use Prim.Native.Nat.{ℕ, _+_, _-_, _^_, _<_, _≤_}
 use native.Mathlib.Omega.{arith}
@@ -8,7 +8,7 @@ use lib.Seq.{drop-at, take-append-le}
 use Rattle.std.specs.Holes.{between}
 use Rattle.std.specs.Vec.{made}
 use Rattle.std.specs.declared.result.Result.{Result}
-use Rattle.std.specs.declared.result.Result.the-variants.{Ok, Err}
+use Rattle.std.specs.declared.result.Result.the-variants.{Ok}
 use Rattle.std.proofs.shelf.Parts.{between-is}
 use Rattle.refusal.specs.declared.Fault.{Fault}
 use Rattle.wire.specs.declared.front.Header.{Header}
@@ -16,7 +16,7 @@ use Rattle.wire.specs.Fronts.{counterOctets}
 use Rattle.framing.specs.declared.format.Protection.{Protection}
 use Rattle.message.specs.declared.open.Opened.{Opened}
 use Rattle.loopback.specs.Loopbacks.{Looped}
-use Rattle.loopback.specs.MessageLaws.{Opens, contentIn}
+use Rattle.loopback.specs.MessageLaws.{contentIn}
 use Rattle.message.specs.Messages.{Keystream, Tag, message}
 use Rattle.message.specs.Opens.{openAnswer, openBuffer}
 use Rattle.message.specs.Seals.{sealAnswer, sealBuffer}

@@ -1,8 +1,4 @@
 // What holds of every message, with every suite.
-ghost use mathlib.Core.Path.{_≡_};
-ghost use mathlib.Core.List.{_++_};
-ghost use Prim.Native.Nat.{_≤_};
-ghost use lib.ListN.{length, drop};
 ghost use Rattle.loopback.specs.MessageLaws.{Opened-as-sealed};
 use suite::Suite;
 

@@ -1,7 +1,6 @@
 // A message sealed and opened again in one buffer, as by a receiver that it reaches unaltered.
 pub mod laws;
 
-ghost use lib.ListN.{length};
 ghost use Rattle.loopback.specs.Loopbacks.{Looped};
 use framing::format::Protection;
 use message::open::Opened;

@@ -1,6 +1,6 @@
 -- A message written piece by piece, tagged and enciphered. Assumes nothing.
-use mathlib.Core.Path.{_≡_, refl, sym, ap, _∙_}
-use mathlib.Core.List.{List, [], _∷_, _++_}
+use mathlib.Core.Path.{_≡_, sym, ap, _∙_}
+use mathlib.Core.List.{List, _∷_, _++_}
 use Prim.Native.Nat.{ℕ, suc, _+_, _-_, _≤_}
 use native.Mathlib.Omega.{arith}
 use borrow.Rule.Slice.PartMut.{putMid}
@@ -9,7 +9,7 @@ use lib.Seq.{take-at, drop-at, drop-drop, length-take-le}
 use Rattle.std.specs.Holes.{between}
 use Rattle.std.proofs.shelf.Lists.{append-assoc, drop-append-le}
 use Rattle.std.proofs.shelf.Parts.{between-is, drop-putMid, take-putMid, take-putMid-below}
-use Rattle.suite.specs.Ciphers.{enciphered, padded, longestTag}
+use Rattle.suite.specs.Ciphers.{enciphered, padded}
 use Rattle.suite.proofs.Ciphering.{length-padded}
 use Rattle.wire.specs.declared.front.Header.{Header}
 use Rattle.wire.specs.Fronts.{front, frontLength, counterOctets, firstOctet}
@@ -22,7 +22,7 @@ use Rattle.framing.specs.declared.format.Protection.{Protection}
 use Rattle.framing.specs.declared.layout.Layout.{Layout}
 use Rattle.framing.specs.Formats.{tagOctets, leadOf, inputsOf}
 use Rattle.framing.specs.Layouts.{Laid, Ordered}
-use Rattle.message.specs.Messages.{Keystream, Tag, bodyOf, tagFor, clearRest, message}
+use Rattle.message.specs.Messages.{Keystream, Tag, bodyOf, clearRest, message}
 
 pub length-front : (h : Header) (counter : List ℕ) → length (front h counter) ≡ 1 + length counter + length (idOctets (h .id))
 length-front h counter = ap suc (length-append counter (idOctets (h .id))) ∙ omega arith

@@ -4,7 +4,6 @@ ghost use Prim.Native.Nat.{_+_, _≤_};
 ghost use lib.ListN.{length};
 ghost use Rattle.std.specs.Vec.{made};
 ghost use Rattle.std.specs.shelf.Text.{sameBytes};
-ghost use Rattle.framing.specs.Formats.{inputsOf};
 ghost use Rattle.framing.specs.Layouts.{Ordered};
 ghost use Rattle.message.specs.Opens.{cleared, tagMatches, lengthMatches, checked, bodyAnswer, bodyBuffer, openAnswer, openBuffer};
 ghost use Rattle.wire.specs.Fronts.{Within};

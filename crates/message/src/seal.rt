@@ -6,7 +6,7 @@ ghost use Prim.Native.Nat.{_-_, _<_, _≤_};
 ghost use lib.ListN.{length, take, drop};
 ghost use Rattle.std.specs.Holes.{between};
 ghost use Rattle.std.specs.Vec.{made};
-ghost use Rattle.suite.specs.Ciphers.{enciphered, padded, longestTag};
+ghost use Rattle.suite.specs.Ciphers.{enciphered, padded};
 ghost use Rattle.wire.specs.Fronts.{front, counterOctets};
 ghost use Rattle.framing.specs.Formats.{leadOf};
 ghost use Rattle.framing.specs.Layouts.{Laid, Ordered};

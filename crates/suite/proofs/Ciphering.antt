@@ -1,12 +1,12 @@
 -- What enciphering does to lists. Assumes nothing.
 use mathlib.Core.Path.{_≡_, refl, ap, _∙_}
 use mathlib.Core.List.{List, [], _∷_, _++_}
-use Prim.Native.Nat.{ℕ, zero, suc, _+_, _-_, _<_, _≤_}
+use Prim.Native.Nat.{ℕ, zero, suc, _+_, _<_, _≤_}
 use native.Mathlib.Nat.{add-zero, le-of-suc-le-suc, not-suc-le-zero}
 use native.Mathlib.Numerals.{add-one}
 use native.Mathlib.Omega.{arith}
 use lib.Bits.{bitXor, xor-assoc, xor-self, xor-zero-r}
-use lib.ListN.{length, getD, set, take, drop, length-append, length-replicate, replicate}
+use lib.ListN.{length, getD, set, take, drop, length-append, length-replicate}
 use Rattle.std.proofs.shelf.Lists.{take-all, drop-all, append-nil}
 use Rattle.suite.specs.Ciphers.{enciphered, padded, longestTag}
 

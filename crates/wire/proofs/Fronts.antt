@@ -1,20 +1,16 @@
 -- The front of a message, written and read. Assumes nothing.
-use mathlib.Core.Path.{_≡_, refl, sym, ap, _∙_}
+use mathlib.Core.Path.{_≡_, refl, ap, _∙_}
 use mathlib.Core.List.{List, [], _∷_, _++_}
 use Prim.Native.Nat.{ℕ, _+_, _-_, _≤_}
 use native.Mathlib.Omega.{arith}
 use borrow.Rule.Slice.PartMut.{putMid}
-use lib.ListN.{length, take, drop, set}
+use lib.ListN.{length, drop, set}
 use Rattle.std.specs.Holes.{between}
-use Rattle.std.proofs.shelf.Lists.{append-assoc}
 use Rattle.std.proofs.shelf.Parts.{between-to-end}
-use Rattle.std.specs.declared.result.Result.{Result}
-use Rattle.std.specs.declared.result.Result.the-variants.{Ok, Err}
-use Rattle.refusal.specs.declared.Fault.{Fault}
 use Rattle.wire.specs.declared.id.IdLength.{IdLength}
 use Rattle.wire.specs.declared.front.Header.{Header}
 use Rattle.wire.specs.Fronts.{firstOctet, front, counterOctets, frontLength, idEnd}
-use Rattle.wire.specs.Ids.{idLength, idOctets}
+use Rattle.wire.specs.Ids.{idLength}
 use Rattle.wire.specs.Limits.{longestId}
 use Rattle.octets.specs.Octets.{octets, widthOf}
 use Rattle.octets.proofs.Numbers.{length-octets}

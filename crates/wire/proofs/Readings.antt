@@ -1,39 +1,36 @@
 -- A front is read exactly where one is written. Assumes nothing.
 use mathlib.Core.Path.{_≡_, refl, sym, ap, subst, _∙_}
-use mathlib.Core.Bool.{Bool, true, false, cond, not, _&&_}
+use mathlib.Core.Bool.{true, false, not, _&&_}
 use mathlib.Core.Logic.{inl, inr}
-use mathlib.Core.List.{List, [], _∷_, _++_}
-use Prim.Native.Nat.{ℕ, suc, _+_, _-_, _*_, _/_, _%_, _^_, _<_, _≤_}
+use mathlib.Core.List.{List, _∷_, _++_}
+use Prim.Native.Nat.{ℕ, suc, _+_, _-_, _/_, _%_, _^_, _<_, _≤_}
 use native.Mathlib.Omega.{arith}
 use lib.Dec.{eqb, ltb, leb}
 use lib.ListN.{length, getD, take, drop, length-append, length-drop}
 use lib.Seq.{take-at, drop-at, drop-cons, drop-drop, length-take-le}
 use Rattle.std.specs.Holes.{between}
 use Rattle.std.specs.shelf.Digits.{number, Under}
-use Rattle.std.specs.shelf.Lists.{All}
 use Rattle.std.specs.declared.result.Result.{Result}
-use Rattle.std.specs.declared.result.Result.the-variants.{Ok, Err}
+use Rattle.std.specs.declared.result.Result.the-variants.{Ok}
 use Rattle.std.proofs.shelf.Elements.{all-take, all-drop, all-getD}
 use Rattle.std.proofs.shelf.Lists.{append-assoc, take-append-drop}
-use Rattle.std.proofs.shelf.Parts.{first-rest}
-use Rattle.std.proofs.shelf.Tests.{and-parts, and-from, cases-bool, eq-eqb, eqb-true, le-leb, le-ltb, leb-true, lt-ltb, ltb-false, ltb-true, ne-eqb, not-from-false, not-true}
+use Rattle.std.proofs.shelf.Tests.{and-parts, cases-bool, eq-eqb, eqb-true, le-leb, le-ltb, leb-true, lt-ltb, ltb-false, ltb-true, ne-eqb, not-true}
 use Rattle.refusal.specs.declared.Fault.{Fault}
 use Rattle.refusal.specs.declared.Refusal.the-variants.{MessageTooLong, EndsInHeader, ReservedBitSet, CounterLength, NotASessionId}
 use Rattle.refusal.specs.Refusals.{faultAt}
 use Rattle.refusal.specs.Tests.{need, andThen}
-use Rattle.refusal.proofs.Rows.{need-held, need-holds, andThen-went}
+use Rattle.refusal.proofs.Rows.{need-held, andThen-went}
 use Rattle.wire.specs.declared.parties.Plane.{Plane}
 use Rattle.wire.specs.declared.parties.Plane.the-variants.{Control, User}
-use Rattle.wire.specs.declared.id.SessionId.{SessionId}
 use Rattle.wire.specs.declared.id.IdLength.{IdLength}
 use Rattle.wire.specs.declared.id.IdLength.the-variants.{Is, Unfinished, TooLong}
 use Rattle.wire.specs.declared.front.Header.{Header}
 use Rattle.wire.specs.declared.front.Front.{Front}
-use Rattle.wire.specs.FrontLaws.{Writable, Counts, Begins, Read-as-written}
-use Rattle.wire.specs.Fronts.{planeBit, planeOf, firstOctet, front, frontLength, frontOf, frontRead, fieldsRead, idEnd, counterOctets}
+use Rattle.wire.specs.FrontLaws.{Writable, Begins, Read-as-written}
+use Rattle.wire.specs.Fronts.{planeOf, firstOctet, front, frontLength, frontOf, frontRead, fieldsRead, idEnd, counterOctets}
 use Rattle.wire.specs.Ids.{idLength, idOf, idOctets, isId}
 use Rattle.wire.specs.Limits.{longestMessage, longestId, longestCounter}
-use Rattle.octets.specs.Octets.{octets, widthOf}
+use Rattle.octets.specs.Octets.{widthOf}
 use Rattle.wire.proofs.Ids.{id-before, id-found, id-octets, is-id-ends, is-id-from}
 use Rattle.octets.proofs.Numbers.{length-octets, number-octets, width-fewest}
 

@@ -1,6 +1,6 @@
 -- The front of a message, which stays clear. Assumes nothing.
-use mathlib.Core.Bool.{Bool, true, false, cond, not, _&&_}
-use mathlib.Core.List.{List, [], _∷_, _++_}
+use mathlib.Core.Bool.{cond, not, _&&_}
+use mathlib.Core.List.{List, _∷_, _++_}
 use Prim.Native.Nat.{ℕ, _+_, _*_, _/_, _%_, _<_, _≤_}
 use lib.Dec.{eqb, ltb, leb}
 use lib.ListN.{length, getD, drop}
@@ -14,7 +14,6 @@ use Rattle.refusal.specs.Refusals.{faultAt}
 use Rattle.refusal.specs.Tests.{need, andThen}
 use Rattle.wire.specs.declared.parties.Plane.{Plane}
 use Rattle.wire.specs.declared.parties.Plane.the-variants.{Control, User}
-use Rattle.wire.specs.declared.id.SessionId.{SessionId}
 use Rattle.wire.specs.declared.id.IdLength.{IdLength}
 use Rattle.wire.specs.declared.id.IdLength.the-variants.{Is, Unfinished, TooLong}
 use Rattle.wire.specs.declared.front.Header.{Header}

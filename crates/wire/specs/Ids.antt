@@ -1,5 +1,5 @@
 -- Session IDs. Assumes nothing.
-use mathlib.Core.Bool.{Bool, true, false, cond, not, _&&_}
+use mathlib.Core.Bool.{Bool, false, cond, not, _&&_}
 use mathlib.Core.List.{List, [], _∷_}
 use Prim.Native.Nat.{ℕ, zero, suc, _+_, _≤_}
 use lib.Dec.{eqb, ltb}
@@ -36,9 +36,6 @@ idGiven l = cond (isId l) (Some (idOf l)) None
 
 abbrev pub idOctets : SessionId → List ℕ
 idOctets id = octets (widthOf (id .number)) (id .number)
-
-abbrev pub sameId : SessionId → SessionId → Bool
-sameId x y = eqb (x .number) (y .number)
 
 -- an ID that ends within n octets
 abbrev pub IdInside : ℕ → IdLength → Type 0

@@ -1,9 +1,8 @@
 // Session IDs: one to four octets, the top bit set on all but the last.
 ghost use mathlib.Core.Path.{_≡_};
-ghost use mathlib.Core.Bool.{true};
 ghost use Prim.Native.Nat.{_≤_};
 ghost use lib.ListN.{length};
-ghost use Rattle.wire.specs.Ids.{idLength, IdInside, isId, idOf, idGiven, idOctets, sameId};
+ghost use Rattle.wire.specs.Ids.{idLength, IdInside, isId, idGiven, idOctets};
 ghost use Rattle.wire.specs.Limits.{longestId};
 ghost use Rattle.octets.specs.Octets.{widthOf};
 use octets::read_number;

@@ -1,6 +1,5 @@
 // The planes of a session and the roles of its two ends.
 ghost use mathlib.Core.Path.{_≡_};
-ghost use Prim.Native.Nat.{_<_};
 ghost use Rattle.wire.specs.Parties.{bearerOf, directionOf};
 
 // What a message carries; the number is the bearer that the suite is told.

@@ -1,4 +1,4 @@
-use mathlib.Core.Path.{_≡_, _∙_}
+use mathlib.Core.Path.{_∙_}
 use Rattle.suite.proofs.Ciphering.{enciphered-more, enciphered-all}
 use Rattle.bench_suite.specs.Sums.{benchKeystream}
 use Rattle.bench_suite.proofs.BenchSuite.encipher.Needs as need

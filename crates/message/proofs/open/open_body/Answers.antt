@@ -1,4 +1,3 @@
-use native.Mathlib.Omega.{arith}
 use Rattle.message.proofs.Clears.{put-back}
 use Rattle.message.proofs.open.open_body.Needs as need
 

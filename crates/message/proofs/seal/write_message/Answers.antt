@@ -1,4 +1,3 @@
-use mathlib.Core.Path.{_≡_}
 use Rattle.message.proofs.Writes.{message-written}
 use Rattle.message.proofs.seal.write_message.Needs as need
 

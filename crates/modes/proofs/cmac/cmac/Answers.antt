@@ -2,7 +2,7 @@ use mathlib.Core.Path.{_≡_, sym, _∙_}
 use mathlib.Core.List.{_++_}
 use native.Mathlib.Omega.{arith}
 use Prim.Native.Nat.{_/_}
-use lib.ListN.{length, length-append}
+use lib.ListN.{length-append}
 use Rattle.modes.proofs.Chains.{chained-none, chained-more, cmac-is}
 use Rattle.modes.proofs.cmac.cmac.Needs as need
 

@@ -1,11 +1,9 @@
 use native.Mathlib.Omega.{arith}
-use mathlib.Core.Path.{_≡_, ap, _∙_}
+use mathlib.Core.Path.{_≡_}
 use mathlib.Core.List.{_++_}
-use lib.Dec.{lit<}
-use Rattle.octets.specs.Octets.{octets}
 use Rattle.octets.proofs.Numbers.{room}
 use Rattle.modes.specs.Texts.{octetFrom}
-use Rattle.modes.proofs.Readings.{Reads, reads-none, reads-more, reads-all}
+use Rattle.modes.proofs.Readings.{reads-none, reads-more, reads-all}
 use Rattle.modes.proofs.cmac.eight_from.Needs as need
 
 pub mul-number : need.mul-number

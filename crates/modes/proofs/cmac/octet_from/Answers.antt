@@ -1,7 +1,5 @@
 use native.Mathlib.Omega.{arith}
 use mathlib.Core.Path.{refl}
-use Prim.Native.Nat.{_+_, _-_}
-use lib.ListN.{length}
 use Rattle.modes.proofs.Readings.{from-head, from-message, from-end, from-behind}
 use Rattle.modes.proofs.cmac.octet_from.Needs as need
 

@@ -1,4 +1,4 @@
-use mathlib.Core.Path.{_≡_, _∙_}
+use mathlib.Core.Path.{_∙_}
 use Rattle.suite.proofs.Ciphering.{enciphered-more, enciphered-all}
 use Rattle.modes.specs.Counter.{counterStream}
 use Rattle.modes.proofs.Streams.{stream-octet, enciphers-on}

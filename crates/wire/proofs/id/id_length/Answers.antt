@@ -1,6 +1,5 @@
-use mathlib.Core.Path.{_≡_, sym, _∙_}
+use mathlib.Core.Path.{sym, _∙_}
 use native.Mathlib.Omega.{arith}
-use borrow.Author.Needs.{needs}
 use Rattle.wire.specs.Limits.{longestId}
 use Rattle.wire.proofs.Ids.{unfinished, goes-on}
 use Rattle.wire.proofs.id.id_length.Needs as need
