@@ -3,6 +3,7 @@
 
 Outside the gate: run `rt check suite_runs` first, then this. An argument sets how many messages (3,000 without one).
 """
+import os
 import subprocess
 import sys
 
@@ -20,6 +21,7 @@ def octets(text):
 
 
 def main():
+    os.chdir(os.path.join(os.path.dirname(os.path.abspath(__file__)), ".."))
     times = sys.argv[1] if len(sys.argv) > 1 else "3000"
     lines = subprocess.run(["target/bin/suite_runs", "trace", times], capture_output=True, check=True, text=True).stdout.splitlines()
     different = 0

@@ -24,7 +24,7 @@ summed key inputs more = (key + inputs .count + inputs .bearer + inputs .directi
 abbrev pub benchKeystream : Keyset → Inputs → ℕ → ℕ
 benchKeystream k inputs i = summed (keyOctet (k .encryption0) (k .encryption1) (i % 16)) inputs i
 
--- the sum of the octets whose place, counted from i, leaves j on division by 16
+-- the sum of every sixteenth octet, those of column j, where the first octet is in column i mod 16
 abbrev pub column : ℕ → ℕ → List ℕ → ℕ
 column j i [] = 0
 column j i (x ∷ xs) = cond (eqb (i % 16) j) x 0 + column j (i + 1) xs

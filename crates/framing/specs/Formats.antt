@@ -20,9 +20,9 @@ tagOctets Twelve = 12
 tagOctets Sixteen = 16
 
 -- D
-abbrev pub dataOctets : DataLength → ℕ
-dataOctets One = 1
-dataOctets Two = 2
+abbrev pub lengthOctets : DataLength → ℕ
+lengthOctets One = 1
+lengthOctets Two = 2
 
 -- the octets of the longest Data Length
 abbrev pub longestLead : ℕ
@@ -31,12 +31,12 @@ longestLead = 2
 -- the octets of Data Length: D on the user plane, none on the control plane
 abbrev pub leadOf : Format → Plane → ℕ
 leadOf f Control = 0
-leadOf f User = dataOctets (f .length)
+leadOf f User = lengthOctets (f .length)
 
 -- the fewest octets between Session ID and tag: a command on the control plane, Data Length on the user plane
 abbrev pub leastOf : Format → Plane → ℕ
 leastOf f Control = 1
-leastOf f User = dataOctets (f .length)
+leastOf f User = lengthOctets (f .length)
 
 -- the count is the counter, and bearer and direction go by plane and sender
 abbrev pub inputsOf : Protection → Header → Inputs

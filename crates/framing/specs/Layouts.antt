@@ -19,7 +19,7 @@ use Rattle.wire.specs.Limits.{longestMessage}
 use Rattle.octets.specs.Octets.{widthOf}
 use Rattle.framing.specs.declared.format.Format.{Format}
 use Rattle.framing.specs.declared.layout.Layout.{Layout}
-use Rattle.framing.specs.Formats.{tagOctets, dataOctets, leadOf, leastOf, longestLead}
+use Rattle.framing.specs.Formats.{tagOctets, lengthOctets, leadOf, leastOf, longestLead}
 
 -- a message whose content has n octets
 abbrev pub sealedLength : Format → Header → ℕ → ℕ
@@ -37,7 +37,7 @@ planLayout f h n = record {
 -- D octets hold the number of Data octets
 abbrev pub dataFits : Format → Plane → ℕ → Bool
 dataFits f Control n = true
-dataFits f User n = ltb n (2 ^ (8 * dataOctets (f .length)))
+dataFits f User n = ltb n (2 ^ (8 * lengthOctets (f .length)))
 
 -- a message that is to be written into a buffer of the given room
 abbrev pub planned : Format → Header → ℕ → ℕ → Result Layout Fault

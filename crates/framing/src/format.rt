@@ -1,7 +1,7 @@
 // What two ends agree on for a message: its keys, its sender, and the size of its tag and of its Data Length.
 ghost use mathlib.Core.Path.{_≡_};
 ghost use Prim.Native.Nat.{_≤_};
-ghost use Rattle.framing.specs.Formats.{tagOctets, dataOctets, leadOf, inputsOf, longestLead};
+ghost use Rattle.framing.specs.Formats.{tagOctets, lengthOctets, leadOf, inputsOf, longestLead};
 ghost use Rattle.suite.specs.Ciphers.{longestTag};
 use suite::Inputs;
 use suite::Keyset;
@@ -49,7 +49,7 @@ impl TagLength {
 
 impl DataLength {
     pub fn octets(self) -> usize
-        ensures value { λ r. ⌜ r ≡ dataOctets self ⌝ }
+        ensures value { λ r. ⌜ r ≡ lengthOctets self ⌝ }
         ensures bound { λ r. ⌜ (1 ≤ r) × (r ≤ longestLead) ⌝ }
     {
         self as usize

@@ -42,7 +42,7 @@ use Rattle.framing.specs.declared.format.Format.{Format}
 use Rattle.framing.specs.declared.format.Protection.{Protection}
 use Rattle.framing.specs.declared.layout.Layout.{Layout}
 use Rattle.message.specs.declared.open.Opened.{Opened}
-use Rattle.framing.specs.Formats.{tagOctets, dataOctets, leadOf, leastOf, inputsOf}
+use Rattle.framing.specs.Formats.{tagOctets, lengthOctets, leadOf, leastOf, inputsOf}
 use Rattle.framing.specs.Layouts.{dataFits, readLayout, located}
 use Rattle.loopback.specs.MessageLaws.{Carries, contentIn, Opened-as-sealed}
 use Rattle.message.specs.Messages.{Keystream, Tag, bodyOf, tagFor, clearRest, message}
@@ -64,13 +64,13 @@ lead-least : (f : Format) (plane : Plane) → leadOf f plane ≤ leastOf f plane
 lead-least f Control = omega arith
 lead-least f User = omega arith
 
-some-data : (d : DataLength) → 1 ≤ dataOctets d
+some-data : (d : DataLength) → 1 ≤ lengthOctets d
 some-data One = omega arith
 some-data Two = omega arith
 
 fits-from : (f : Format) (plane : Plane) (n : ℕ) → (leadOf f plane ≡ 0) ⊎ (n < 2 ^ (8 * leadOf f plane)) → dataFits f plane n ≡ true
 fits-from f Control n h = refl
-fits-from f User n h = elim h [ inl none ↦ absurd (omega (arith, some-data (f .length))) | inr below ↦ lt-ltb n (2 ^ (8 * dataOctets (f .length))) below ]
+fits-from f User n h = elim h [ inl none ↦ absurd (omega (arith, some-data (f .length))) | inr below ↦ lt-ltb n (2 ^ (8 * lengthOctets (f .length))) below ]
 
 -- a field that passes its test is the Data Length of n octets
 field-is : (field : List ℕ) (n : ℕ) → Under 256 field → (length field ≡ 0) ⊎ (number 256 field ≡ n)

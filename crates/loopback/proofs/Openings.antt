@@ -39,7 +39,7 @@ use Rattle.framing.specs.declared.format.TagLength.the-variants.{Four, Eight, T
 use Rattle.framing.specs.declared.format.Format.{Format}
 use Rattle.framing.specs.declared.format.Protection.{Protection}
 use Rattle.framing.specs.declared.layout.Layout.{Layout}
-use Rattle.framing.specs.Formats.{tagOctets, dataOctets, leadOf, leastOf, inputsOf}
+use Rattle.framing.specs.Formats.{tagOctets, lengthOctets, leadOf, leastOf, inputsOf}
 use Rattle.framing.specs.Layouts.{dataFits, sealedLength, planLayout, planned, readLayout, located}
 use Rattle.loopback.specs.MessageLaws.{Carries, Opens}
 use Rattle.message.specs.Messages.{Keystream, Tag, bodyOf, tagFor, clearRest, message}
@@ -61,7 +61,7 @@ least-filled f User n h = omega arith
 -- Data Length, where there is one, holds the number of octets
 length-held : (f : Format) (plane : Plane) (n : ℕ) → dataFits f plane n ≡ true → (leadOf f plane ≡ 0) ⊎ (n < 2 ^ (8 * leadOf f plane))
 length-held f Control n h = inl refl
-length-held f User n h = inr (ltb-true n (2 ^ (8 * dataOctets (f .length))) h)
+length-held f User n h = inr (ltb-true n (2 ^ (8 * lengthOctets (f .length))) h)
 
 same-octets : (xs : List ℕ) → sameBytes xs xs ≡ true
 same-octets xs = sameBytes-decides xs xs .1 refl

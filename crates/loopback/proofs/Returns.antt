@@ -33,7 +33,8 @@ returned stream tag t p h content before filled part n r counter-fits id-fits se
     let z : n - 0 ≡ n = omega arith in
     let whole = sealed-buffer stream tag t p h content before n (sym sealed) in
     let m = take n (sealBuffer stream tag t p h content before) in
-    let opens = back stream tag t p h content before n counter-fits id-fits (sym sealed) .2 in
+    let sealed-back = back stream tag t p h content before n counter-fits id-fits (sym sealed) in
+    let opens = sealed-back .2 in
     let o = opens .opened in
     let same : take (n - 0) filled ≡ m = cc in
     let ok : r ≡ Ok o = r-is ∙ ap (openAnswer stream tag t p) same ∙ opens .answer in
@@ -45,4 +46,12 @@ returned stream tag t p h content before filled part n r counter-fits id-fits se
     between-before part (drop (n - 0) filled) (o .place) (o .place + o .length) bound ∙ ap (contentIn o) part-opened ∙ opens .same-content in
     let buffer : part ++ drop (n - 0) filled ≡ openBuffer stream tag t p m ++ drop n before = cc in
     subst (Looped stream tag t p h content before (part ++ drop (n - 0) filled)) (sym ok)
-    record { header = opens .same-header; carried = carried; n = n; sealed = sym sealed; buffer = buffer }
+    record {
+      n = n;
+      sealed = sym sealed;
+      answer = opens .answer;
+      inside = (let k = ap length same in let l = sealed-back .0 in omega arith);
+      header = opens .same-header;
+      carried = carried;
+      buffer = buffer;
+    }

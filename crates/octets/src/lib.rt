@@ -41,7 +41,7 @@ pub fn write_number(c: u32, out: &mut [u8])
     }
 }
 
-// The number that at most as many octets write as a number has; the first of them may be 0.
+// The number that some octets write, at most four; the first of them may be 0.
 pub fn read_number(from: &[u8]) -> u32
     requires { ⌜ length (now from) ≤ widest ⌝ }
     ensures { λ r. ⌜ r ≡ number 256 (now (from .entry)) ⌝ }

@@ -37,7 +37,7 @@ abbrev pub among : ℕ → List ℕ → Bool
 among n [] = false
 among n (x ∷ xs) = eqb n x || among n xs
 
--- each number belongs to one layer
+-- the layer that refuses with a number
 abbrev pub layerOf : ℕ → Layer
 layerOf n =
     cond (among n (1 ∷ 2 ∷ 3 ∷ 4 ∷ 5 ∷ 10 ∷ 12 ∷ 21 ∷ [])) Wire

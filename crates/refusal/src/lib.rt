@@ -1,4 +1,4 @@
-// The numbers that an end says no with, the layer of each, and the fault that carries one up to the caller.
+// Refusals by number, the layer of each, and the fault that carries one up to the caller.
 ghost use mathlib.Core.Path.{_≡_};
 ghost use mathlib.Core.List.{_++_};
 ghost use Prim.Native.Nat.{_≤_};

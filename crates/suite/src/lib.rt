@@ -27,7 +27,7 @@ pub struct Inputs {
     pub direction: u8,
 }
 
-// The meaning of a suite is two functions. No call refuses, and none changes the meaning.
+// What a suite means is given by two functions, which no call changes; and no call can fail.
 pub trait Suite {
     // The octet of the keystream at a place.
     ghost keystream: { Self → Keyset → Inputs → ℕ → ℕ };

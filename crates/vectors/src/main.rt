@@ -1,4 +1,5 @@
 // Compares with the published vectors, and prints a line for each.
+ghost use mathlib.Core.Path.{_≡_};
 use aes::Block;
 use aes::Schedule;
 use aes_suite::Aes;
@@ -30,7 +31,9 @@ fn note(rt: &LibcRuntime, count: Count, name: &str, set: u32, same: bool) -> io:
 }
 
 // The same key for integrity and encryption.
-fn keyset(first: u64, second: u64) -> Keyset {
+fn keyset(first: u64, second: u64) -> Keyset
+    ensures { λ r. ⌜ r ≡ record { integrity0 = first; integrity1 = second; encryption0 = first; encryption1 = second } ⌝ }
+{
     Keyset {
         integrity0: first,
         integrity1: second,

@@ -1,4 +1,8 @@
 // One reading on its way: sealed by the logger, opened by the service, and refused where it was altered.
+ghost use mathlib.Core.Path.{_≡_};
+ghost use Rattle.framing.specs.declared.format.DataLength.the-variants.{One};
+ghost use Rattle.framing.specs.declared.format.TagLength.the-variants.{Four};
+ghost use Rattle.wire.specs.declared.parties.Role.the-variants.{Logger};
 use bench_suite::Bench;
 use bench_suite::BenchSuite;
 use framing::format::DataLength;
@@ -23,7 +27,10 @@ const LEVEL: u16 = 0x4142;
 const TERMINATE: [u8; 1] = [0x30];
 
 // What logger and service agreed on for what the logger sends.
-fn agreed() -> Protection {
+fn agreed() -> Protection
+    ensures sender { λ r. ⌜ r .sender ≡ Logger ⌝ }
+    ensures format { λ r. ⌜ r .format ≡ record { tag = Four; length = One } ⌝ }
+{
     Protection {
         keys: Keyset {
             integrity0: 0x1010_1010_1010_1010,
@@ -40,7 +47,9 @@ fn agreed() -> Protection {
 }
 
 // The header of the logger's first message on a plane.
-fn first(plane: Plane) -> Header {
+fn first(plane: Plane) -> Header
+    ensures { λ r. ⌜ r ≡ record { plane = plane; key = 1; counter = 1; id = record { number = 1 } } ⌝ }
+{
     Header {
         plane,
         key: 1,

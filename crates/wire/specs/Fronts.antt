@@ -27,7 +27,7 @@ abbrev pub planeBit : Plane → ℕ
 planeBit Control = 0
 planeBit User = 1
 
--- plane bit, reserved bit 0, three bits of Key ID, three bits of counter length
+-- from the top: plane bit, a zero, Key ID on three bits, octets of the counter on three bits
 abbrev pub firstOctet : Plane → ℕ → ℕ → ℕ
 firstOctet plane key n = planeBit plane * 128 + key * 8 + n
 

@@ -1,4 +1,5 @@
-// Messages worked through by hand, sealed, opened and refused.
+// Messages worked through, sealed, opened and refused.
+#[cfg(test)]
 mod agreed;
 #[cfg(test)]
 mod fronts;

@@ -81,7 +81,7 @@ fn the_wrong_sender() -> Result<(), Fail> {
     not_opened(p, octets, Refusal::TagDiffers, 6)
 }
 
-// A message that ends in its body, for each plane, M and D.
+// Messages that end in their bodies, on both planes; the last is one octet longer, and its tag is looked at.
 #[test]
 fn too_short() -> Result<(), Fail> {
     not_opened(

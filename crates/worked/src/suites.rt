@@ -1,15 +1,14 @@
-// Messages of the AES suite and of the clear suite; their octets were reckoned with OpenSSL.
+// Messages of the AES suite and of the clear suite; their octets were reckoned with OpenSSL (tools/message_vectors.py does it again).
 use crate::agreed::header;
 use crate::agreed::protection;
 use crate::agreed::usual;
+use crate::agreed::worked;
 use aes_suite::Aes;
 use aes_suite::AesSuite;
 use aes_suite::Clear;
 use aes_suite::ClearSuite;
 use framing::format::DataLength;
-use framing::format::Protection;
 use framing::format::TagLength;
-use loopback::loopback;
 use message::open::OpenedDebug;
 use message::open::OpenedPartialEq;
 use message::open::open;
@@ -19,26 +18,8 @@ use refusal::FaultDebug;
 use refusal::FaultPartialEq;
 use refusal::Refusal;
 use std::test::*;
-use suite::Suite;
-use wire::front::Header;
-use wire::front::HeaderDebug;
-use wire::front::HeaderPartialEq;
 use wire::parties::Plane;
 use wire::parties::Role;
-
-// Sealing gives these octets, and a loopback of the same content its header.
-fn worked<C: Suite>(
-    suite: &C,
-    p: Protection,
-    h: Header,
-    content: &[u8],
-    octets: &[u8],
-) -> Result<(), Fail> {
-    let mut buffer = [0xEEu8; 64];
-    let n = seal(suite, p, h, content, &mut buffer)?;
-    check_eq(&buffer[0..n], octets)?;
-    check_eq(loopback(suite, p, h, content, &mut buffer)?.header, h)
-}
 
 #[test]
 fn the_level_with_aes() -> Result<(), Fail> {

@@ -1,39 +1,25 @@
-// Whole messages, reckoned by hand from the rules (tools/bench_vectors.py does it again).
+// Whole messages, reckoned by hand from the rules (tools/message_vectors.py does it again).
 use crate::agreed::header;
 use crate::agreed::protection;
 use crate::agreed::usual;
+use crate::agreed::worked;
 use bench_suite::Bench;
 use bench_suite::BenchSuite;
 use framing::format::DataLength;
-use framing::format::Protection;
 use framing::format::TagLength;
 use message::open::open;
-use message::seal::seal;
 use refusal::FaultDebug;
 use std::test::*;
-use wire::front::Header;
 use wire::front::HeaderDebug;
 use wire::front::HeaderPartialEq;
 use wire::parties::Plane;
 use wire::parties::Role;
 
-// Sealing gives these octets and leaves what stands behind them; opening them gives the header and the content.
-fn worked(p: Protection, h: Header, content: &[u8], octets: &[u8]) -> Result<(), Fail> {
-    let mut buffer = [0xEEu8; 64];
-    let n = seal(&Bench, p, h, content, &mut buffer)?;
-    check_eq(&buffer[0..n], octets)?;
-    check_eq(buffer[63], 0xEE)?;
-    let message = &mut buffer[0..n];
-    let opened = open(&Bench, p, message)?;
-    check_eq(opened.header, h)?;
-    let (start, end) = (opened.place, opened.place + opened.length);
-    check_eq(&message[start..end], content)
-}
-
 #[test]
 fn the_level() -> Result<(), Fail> {
     let octets = [0x89, 0x01, 0x01, 0x34, 0x76, 0x7A, 0x12, 0x16, 0x50, 0x50];
     worked(
+        &Bench,
         usual(),
         header(Plane::User, 1, 1, 0x01),
         &[0x41, 0x42],
@@ -45,6 +31,7 @@ fn the_level() -> Result<(), Fail> {
 fn a_terminate_request() -> Result<(), Fail> {
     let octets = [0x09, 0x01, 0x01, 0x11, 0x36, 0x60, 0x37, 0x36];
     worked(
+        &Bench,
         usual(),
         header(Plane::Control, 1, 1, 0x01),
         &[0x30],
@@ -75,6 +62,7 @@ fn counter_255() -> Result<(), Fail> {
         0x6B,
     ];
     worked(
+        &Bench,
         p,
         header(Plane::User, 7, 255, 0xF469),
         &[0x41, 0x42],
@@ -106,6 +94,7 @@ fn counter_256() -> Result<(), Fail> {
         0x6D,
     ];
     worked(
+        &Bench,
         p,
         header(Plane::User, 7, 256, 0xF469),
         &[0x41, 0x42],
@@ -144,6 +133,7 @@ fn counter_0() -> Result<(), Fail> {
         0x2C,
     ];
     worked(
+        &Bench,
         p,
         header(Plane::Control, 3, 0, 0x82A57F),
         &[0x40, 0x09, 0x01, 0x82],
@@ -178,6 +168,7 @@ fn counter_4294967295() -> Result<(), Fail> {
         0x68,
     ];
     worked(
+        &Bench,
         p,
         header(Plane::User, 2, 4_294_967_295, 0x82A57F),
         &[],
