@@ -38,7 +38,12 @@ for k0, k1, c, b, d, message, tag in re.findall(key + r",\s*" + inputs + r",\s*&
 for k0, k1 in re.findall(r"Schedule::new\(0x([0-9A-F]{16}), 0x([0-9A-F]{16})\),?\s*&\[\]", source):
     for size, tag in re.findall(r"CMAC_MESSAGE\[0\.\.(\d+)\]\) == 0x([0-9A-F]{32})", source):
         answers.append((f"CMAC of {size}", cmac(k0 + k1, arrays["CMAC_MESSAGE"][: int(size)]).hex().upper() == tag))
+block = r"Schedule::new\(0x([0-9A-F]{16}), 0x([0-9A-F]{16})\)\.encrypt\(Block \{" + r"\s*\w: 0x([0-9A-F]{8}),?" * 4
+expected = re.findall(r"number_of\(\w+\) == 0x([0-9A-F]{32})", source)
+for (k0, k1, *words), wanted in zip(re.findall(block, source), expected):
+    made = openssl("enc", "-aes-128-ecb", "-nopad", "-K", k0 + k1, given=bytes.fromhex("".join(words)))
+    answers.append(("block " + wanted, made.hex().upper() == wanted))
 for name, same in answers:
     print("same" if same else "DIFFERENT", name)
 print(f"{len(answers)} confirmed, {sum(not same for _, same in answers)} different")
-sys.exit(0 if len(answers) == 11 and all(same for _, same in answers) else 1)
+sys.exit(0 if len(answers) == 13 and all(same for _, same in answers) else 1)

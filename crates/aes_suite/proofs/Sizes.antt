@@ -32,8 +32,8 @@ append-octets n m xs ys a b = record {
   under = under-append xs ys (a .under) (b .under);
 }
 
-number-octets : (n c : ℕ) → Octets n (octets n c)
-number-octets n c = record { long = length-octets n c; under = under-octets n c }
+written-octets : (n c : ℕ) → Octets n (octets n c)
+written-octets n c = record { long = length-octets n c; under = under-octets n c }
 
 length-xors : (xs ys : List ℕ) → length xs ≡ length ys → length (xors xs ys) ≡ length xs
 length-xors [] [] h = refl
@@ -124,7 +124,7 @@ pub aes-octets : (first second : ℕ) (block : List ℕ) → Octets 16 (aes (key
 unfolding cipher addRoundKey subBytes keyOctets
 aes-octets first second block =
     let key = keyOctets first second in
-    let k : Octets 16 key = append-octets 8 8 (octets 8 first) (octets 8 second) (number-octets 8 first) (number-octets 8 second) in
+    let k : Octets 16 key = append-octets 8 8 (octets 8 first) (octets 8 second) (written-octets 8 first) (written-octets 8 second) in
     let words = keyExpansion key in
     let state = rounds words (addRoundKey block (roundKey words 0)) 9 in
     xors-octets 16 (shiftRows (map sbox state)) (roundKey words 10) (shifted-octets (map sbox state) (under-map sbox sbox-octet state)) (round-key-octets key 10 k (omega arith))

@@ -30,7 +30,7 @@ fn start_of(inputs: Inputs) -> u64
         + ((inputs.direction % 2) as u64) * 0x400_0000
 }
 
-// The tag of both suites, and zeros behind it.
+// The tag, and zeros behind it.
 fn tag_of(keys: Keyset, inputs: Inputs, message: &[u8]) -> [u8; LONGEST_TAG]
     ensures { λ r. ⌜ r ≡ padded (eia2 keys inputs (now (message .entry))) ⌝ }
 {
@@ -71,12 +71,12 @@ pub impl Suite for Clear as ClearSuite {
     ghost size = { λ _. tagSize };
 
     fn tag_length(&self) -> usize {
-        TAG_SIZE
+        Aes.tag_length()
     }
 
     fn encipher(&self, _keys: Keyset, _inputs: Inputs, _part: &mut [u8]) {}
 
     fn tag(&self, keys: Keyset, inputs: Inputs, message: &[u8]) -> [u8; LONGEST_TAG] {
-        tag_of(keys, inputs, message)
+        Aes.tag(keys, inputs, message)
     }
 }
