@@ -1,4 +1,6 @@
 // AES-128, one block at a time: enciphering alone.
+#![tactic(auto)]
+
 ghost use Rattle.std.specs.Prelude.{◌≡◌, ◌<◌, ◌≤◌, [], ◌∷◌, map, slice_index};
 ghost use Rattle.aes.specs.Field.{sbox};
 ghost use Rattle.aes.specs.Cipher.{sub_bytes, shift_rows, mix_column, mix_columns, xors, round_key, cipher, rot_word, sub_word, key_expansion};

@@ -1,4 +1,6 @@
 // The AES suite, 128-EIA2 and 128-EEA2, and the clear suite, which has the same tag and enciphers nothing.
+#![tactic(auto)]
+
 ghost use Rattle.std.specs.Prelude.{◌≡◌};
 ghost use Rattle.suite.specs.Ciphers.{padded};
 ghost use Rattle.aes_suite.specs.Suites.{tag_size, start_of, eea2, eia2, eea0};

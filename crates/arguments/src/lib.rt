@@ -1,5 +1,7 @@
 // What a caller hands over, from raw numbers and octets to values that a session can have. What is out of its range is refused
 // with 13.
+#![tactic(auto)]
+
 ghost use Rattle.std.specs.Prelude.{◌≡◌};
 ghost use Rattle.arguments.specs.Arguments.{id_asked, key_asked, settings_asked, content_asked};
 

@@ -1,4 +1,6 @@
 // Reads a script from standard input and writes its transcript to standard output.
+#![tactic(auto)]
+
 use bench_run::run::run;
 use std::io;
 use std::io::Read;

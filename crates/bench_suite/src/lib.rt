@@ -1,4 +1,6 @@
 // The bench suite: sums modulo 256 in the place of a cipher. For tests alone; it keeps no secret.
+#![tactic(auto)]
+
 ghost use Rattle.std.specs.Prelude.{◌≡◌, ℕ, ◌<◌, slice_index};
 ghost use Rattle.bench_suite.specs.Sums.{key_octet, summed, bench_keystream, bench_tag, bench_size};
 ghost use Rattle.std.proofs.Common.{rules};

@@ -1,3 +1,5 @@
 // The commands of control messages, and what a request asks for.
+#![tactic(auto)]
+
 pub mod command;
 pub mod request;

@@ -1,5 +1,7 @@
 // Seals readings of 32 octets with the AES suite, and hears them, for tools/measure_ends.sh. The first argument is `seal` or `hear`,
 // the second how many messages.
+#![tactic(auto)]
+
 use aes_suite::Aes;
 use arguments::RawSettings;
 use endpoint::end::Endpoint;

@@ -1,4 +1,6 @@
 // A message sealed and opened again in one buffer, as by a receiver that it reaches unaltered.
+#![tactic(auto)]
+
 pub mod laws;
 
 ghost use Rattle.loopback.specs.Loopbacks.{Looped};

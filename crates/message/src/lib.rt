@@ -1,3 +1,5 @@
 // A message sealed and opened in the caller's buffer, with any suite.
+#![tactic(auto)]
+
 pub mod open;
 pub mod seal;

@@ -1,4 +1,6 @@
 // Refusals by number, the layer of each, and the fault that carries one up to the caller.
+#![tactic(auto)]
+
 ghost use Rattle.std.specs.Prelude.{◌≡◌, ◌≤◌, ◌++◌, Some, codes, decimal};
 ghost use Rattle.refusal.specs.Refusals.{number_of, layer_of, layer_name, fault_at};
 

@@ -1,4 +1,6 @@
 //! Reads a bench script: its lines, the fields of a line, and the request that a line makes.
+#![tactic(auto)]
+
 mod digits;
 pub mod lines;
 mod pieces;

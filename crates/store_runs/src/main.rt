@@ -1,5 +1,7 @@
 // Looks up sessions in a table of 1,024 places for tools/measure_store.sh. The first argument is how many sessions there are, the
 // second how often the last of them is looked up.
+#![tactic(auto)]
+
 use framing::format::{DataLength, Format, TagLength};
 use keys::id::KeyId;
 use session::session::{Session, Settings};

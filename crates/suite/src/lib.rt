@@ -1,4 +1,6 @@
 // A cipher suite: what enciphers a part of a message in place, and what the tag of a message is.
+#![tactic(auto)]
+
 ghost use Rattle.std.specs.Prelude.{◌≡◌, ℕ, ◌<◌, ◌≤◌, List, length};
 ghost use Rattle.suite.specs.declared.Keyset.{Keyset};
 ghost use Rattle.suite.specs.declared.Inputs.{Inputs};

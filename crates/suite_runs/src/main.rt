@@ -1,4 +1,6 @@
 // Runs the AES suite for the scripts in tools/. The first argument is `cost` or `trace`, the second how many messages.
+#![tactic(auto)]
+
 mod cost;
 mod trace;
 

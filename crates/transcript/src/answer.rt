@@ -109,7 +109,7 @@ impl fmt::Display for Answer<'_> {
 pub fn append_line(out: &mut String, number: usize, answer: Answer<'_>) -> Result<(), AllocError>
     ensures { string_bytes out.new ≡ (if is_ok result then string_bytes out.old ++ line_of number (outcome_of answer.entry) else string_bytes out.old) }
 {
-    let heap = out.allocator();
+    let heap = *out.allocator();
     let line = format!(in heap; "{number},{answer}\n")?;
     out.push_str(&line)
 }

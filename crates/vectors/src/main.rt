@@ -1,4 +1,6 @@
 // Compares with the published vectors, and prints a line for each.
+#![tactic(auto)]
+
 ghost use Rattle.std.specs.Prelude.{◌≡◌};
 
 use aes::{Block, Schedule};

@@ -1,4 +1,6 @@
 // One reading on its way: sealed by the logger, opened by the service, and refused where it was altered.
+#![tactic(auto)]
+
 ghost use Rattle.std.specs.Prelude.{◌≡◌};
 ghost use Rattle.framing.specs.declared.format.DataLength.TheVariants.{One};
 ghost use Rattle.framing.specs.declared.format.TagLength.TheVariants.{Four};

@@ -1,4 +1,6 @@
 // A key changed in one of two sessions that the service keeps in a table.
+#![tactic(auto)]
+
 use arguments::RawSettings;
 use bench_suite::Bench;
 use endpoint::end::Endpoint;

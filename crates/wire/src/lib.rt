@@ -1,4 +1,6 @@
 // The octets of a message that stay clear: first octet, counter and Session ID.
+#![tactic(auto)]
+
 pub mod front;
 pub mod id;
 pub mod laws;

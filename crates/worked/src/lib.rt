@@ -1,4 +1,6 @@
 // Messages worked through, sealed, opened and refused; sessions, keys, stores and ends case by case.
+#![tactic(auto)]
+
 #[cfg(test)]
 mod agreed;
 #[cfg(test)]
@@ -12,7 +14,7 @@ mod round_trips;
 #[cfg(test)]
 mod sessions;
 #[cfg(test)]
-mod stores;
+mod session_stores;
 #[cfg(test)]
 mod suites;
 #[cfg(test)]

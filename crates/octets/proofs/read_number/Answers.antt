@@ -5,11 +5,11 @@ use Rattle.octets.specs.Octets.{widest}
 use Rattle.octets.proofs.Numbers.{room}
 use Rattle.octets.proofs.read_number.Goals as goal
 
-pub overflow-mul-c : goal.overflow-mul-c
-overflow-mul-c c = let r = room widest c.loop-x.x-index c.loop-x.c 0 (omega arith) c.loop-x.invariant.1 (omega arith) in record { fits = omega arith }
+pub overflow_mul-c : goal.overflow_mul-c
+overflow_mul-c c = let r = room widest c.loop-x.x-index c.loop-x.c 0 (omega arith) c.loop-x.invariant.1 (omega arith) in record { fits = omega arith }
 
-pub overflow-add-c : goal.overflow-add-c
-overflow-add-c c = let r = room widest c.loop-x.x-index c.loop-x.c (get_or c.args.from.now c.loop-x.x-index 0) (omega arith) c.loop-x.invariant.1 (search rules) in record { fits = r.0 }
+pub overflow_add-c : goal.overflow_add-c
+overflow_add-c c = let r = room widest c.loop-x.x-index c.loop-x.c (get_or c.args.from.now c.loop-x.x-index 0) (omega arith) c.loop-x.invariant.1 (search rules) in record { fits = r.0 }
 
 pub loop-x-preserved : goal.loop-x-preserved
 loop-x-preserved c =

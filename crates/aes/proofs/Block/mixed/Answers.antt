@@ -6,4 +6,4 @@ use Rattle.aes.proofs.Block.mixed.Goals as goal
 pub returns : goal.returns
 unfolding sub_bytes shift_rows mix_columns block_octets
 returns c =
-    block_is _ _ _ _ _ _ _ _ c.mixed-column.ensures c.mixed-column-2.ensures c.mixed-column-3.ensures c.mixed-column-4.ensures
+    block_is _ _ _ _ _ _ _ _ c.mixed_column.ensures c.mixed_column-2.ensures c.mixed_column-3.ensures c.mixed_column-4.ensures

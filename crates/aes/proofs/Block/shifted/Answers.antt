@@ -6,4 +6,4 @@ use Rattle.aes.proofs.Block.shifted.Goals as goal
 pub returns : goal.returns
 unfolding sub_bytes shift_rows block_octets
 returns c =
-    block_is _ _ _ _ _ _ _ _ c.shifted-column.ensures c.shifted-column-2.ensures c.shifted-column-3.ensures c.shifted-column-4.ensures
+    block_is _ _ _ _ _ _ _ _ c.shifted_column.ensures c.shifted_column-2.ensures c.shifted_column-3.ensures c.shifted_column-4.ensures

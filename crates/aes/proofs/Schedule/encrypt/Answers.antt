@@ -11,7 +11,7 @@ loop-r-init c = refl
 pub loop-r-preserved : goal.loop-r-preserved
 loop-r-preserved c =
     rounds_more (words_of c.args.self.now) (block_octets c.plus-state.result) _ _ _ _ c.loop-r.r c.loop-r.invariant c.mixed.ensures
-    c.round-key-in-loop-r.ensures c.plus-state-in-loop-r.ensures
+    c.round_key-in-loop-r.ensures c.plus-state-in-loop-r.ensures
 
 pub returns : goal.returns
 unfolding cipher add_round_key

@@ -14,8 +14,8 @@ loop-r-preserved c = λ key start.
     let r = c.loop-r.r in
     let begun = c.loop-r.invariant key start in
     let last : 4 * r + 3 < 4 * r + 4 = omega arith in
-    let sum = first_sum key r (get_or c.loop-r.schedule.words (4 * r + 3) 0) c.rotated.result c.word.result c.round-constant.result (begun.1 (4 * r + 3) last)
-    c.rotated.ensures c.round-constant.ensures c.word.ensures in
+    let sum = first_sum key r (get_or c.loop-r.schedule.words (4 * r + 3) 0) c.rotated.result c.word.result c.round_constant.result (begun.1 (4 * r + 3) last)
+    c.rotated.ensures c.round_constant.ensures c.word.ensures in
     let n : 4 * r + c.loop-j.j + 4 ≡ 4 * (r + 1) + 4 = omega arith in
     subst (λ k. Begun key k c.loop-j.schedule.words) n (c.loop-j.invariant key begun sum).0
 

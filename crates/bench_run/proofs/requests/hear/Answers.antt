@@ -20,6 +20,6 @@ returns-in-Err g c =
     let after = meaning g.S.SessionStore.pairs g.S.SessionStore.capacity g.C.Suite.keystream g.C.Suite.tag_of g.C.Suite.size c.hear.new.self in
     let m = c.args.message.now in
     record {
-      text = same_line _ (string_bytes c.args.out.now) (is_ok c.append-line.result) c.args.number _ _ c.append-line.ensures (c.plain.ensures ∙ not_heard (viewed before) m _ c.in-Err.fault c.hear.ensures.value c.in-Err.is);
+      text = same_line _ (string_bytes c.args.out.now) (is_ok c.append_line.result) c.args.number _ _ c.append_line.ensures (c.plain.ensures ∙ not_heard (viewed before) m _ c.in-Err.fault c.hear.ensures.value c.in-Err.is);
       goes = hear_goes before after m c.hear.ensures.end;
     }

@@ -11,7 +11,7 @@ returns-in-Ok g c =
     let id = c.args.id.now in
     let content = c.args.content.now in
     record {
-      text = same_line _ (string_bytes c.args.out.now) (is_ok c.tell-sealed.result) c.args.number _ _ c.tell-sealed.ensures (sealed_is (viewed before) c.args.plane id content _ c.seal.ensures.value c.in-Ok.n _ c.in-Ok.is c.seal.ensures.buffer);
+      text = same_line _ (string_bytes c.args.out.now) (is_ok c.tell_sealed.result) c.args.number _ _ c.tell_sealed.ensures (sealed_is (viewed before) c.args.plane id content _ c.seal.ensures.value c.in-Ok.n _ c.in-Ok.is c.seal.ensures.buffer);
       goes = seal_goes before after id c.args.plane content _ empty_length c.seal.ensures.end;
     }
 
@@ -22,6 +22,6 @@ returns-in-Err g c =
     let id = c.args.id.now in
     let content = c.args.content.now in
     record {
-      text = same_line _ (string_bytes c.args.out.now) (is_ok c.append-line.result) c.args.number _ _ c.append-line.ensures (c.plain.ensures ∙ not-sealed (viewed before) c.args.plane id content _ c.seal.ensures.value c.in-Err.fault c.in-Err.is);
+      text = same_line _ (string_bytes c.args.out.now) (is_ok c.append_line.result) c.args.number _ _ c.append_line.ensures (c.plain.ensures ∙ not_sealed (viewed before) c.args.plane id content _ c.seal.ensures.value c.in-Err.fault c.in-Err.is);
       goes = seal_goes before after id c.args.plane content _ empty_length c.seal.ensures.end;
     }

@@ -17,5 +17,5 @@ loop-first-preserved g c =
       line_more (both (logger c.loop-first.logger) (service c.loop-first.service)) (both (logger c.answer.new.logger) (service c.answer.new.service))
           c.loop-first.number (string_bytes c.loop-first.out) (string_bytes c.answer.new.out) _ c.in-Some.first.line.now
           (lines_of c.loop-first.left.now) (lines_of c.in-Some.first.rest.now) _
-          c.loop-first.invariant.3 lines c.in-ok-line.ensures c.in-ok-answer.ensures.text went.found,
+          c.loop-first.invariant.3 lines c.in_ok-line.ensures c.in_ok-answer.ensures.text went.found,
     )

@@ -5,5 +5,5 @@ use Rattle.commands.proofs.request.request_in.Goals as goal
 
 pub returns-in-Some-ManageKeysRequest : goal.returns-in-Some-ManageKeysRequest
 returns-in-Some-ManageKeysRequest c =
-    let is : c.key-request.result ≡ key_request (drop 1 c.args.content.now) = c.key-request.ensures ∙ ap key_request (take_rest c.args.content.now 1) in
+    let is : c.key_request.result ≡ key_request (drop 1 c.args.content.now) = c.key_request.ensures ∙ ap key_request (take_rest c.args.content.now 1) in
     search rules

@@ -3,8 +3,8 @@ use Rattle.aes.specs.Words.{block_octets}
 use Rattle.modes.proofs.Blocks.{doubled_is, high_fits}
 use Rattle.modes.proofs.cmac.doubled.Goals as goal
 
-pub overflow-cast-y : goal.overflow-cast-y
-overflow-cast-y c = record { fits = high_fits c.number-of-x.result c.number-of-x.type-inv }
+pub overflow_cast-y : goal.overflow_cast-y
+overflow_cast-y c = record { fits = high_fits c.number_of-x.result c.number_of-x.type_inv }
 
 pub returns : goal.returns
-returns c = doubled_is (block_octets c.args.block) (block_octets c.block-of.result) c.number-of-x.result _ c.number-of-x.ensures c.number-of-x.type-inv refl c.block-of.ensures
+returns c = doubled_is (block_octets c.args.block) (block_octets c.block_of.result) c.number_of-x.result _ c.number_of-x.ensures c.number_of-x.type_inv refl c.block_of.ensures

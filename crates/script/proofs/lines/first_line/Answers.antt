@@ -9,6 +9,6 @@ pub returns : goal.returns
 returns c =
     let l = c.args.input.now in
     record {
-      lines = lines_cut l c.before-first.result.now c.behind-first.result.now (omega arith) c.before-first.ensures c.behind-first.ensures;
-      shorter = rest_shorter 10 l c.behind-first.result.now (omega arith) c.behind-first.ensures;
+      lines = lines_cut l c.before_first.result.now c.behind_first.result.now (omega arith) c.before_first.ensures c.behind_first.ensures;
+      shorter = rest_shorter 10 l c.behind_first.result.now (omega arith) c.behind_first.ensures;
     }

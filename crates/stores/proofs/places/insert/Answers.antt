@@ -3,8 +3,8 @@ use Rattle.stores.specs.Places.{filled, first_of, holds_id, is_free, place_of}
 use Rattle.stores.proofs.Rows.{free_low, free_put, add_present, add_full, add_done}
 use Rattle.stores.proofs.places.insert.Goals as goal
 
-pub returns-then-place-of-count : goal.returns-then-place-of-count
-returns-then-place-of-count c =
+pub returns-then-place_of-count : goal.returns-then-place_of-count
+returns-then-place_of-count c =
     let xs = c.args.places.now in
     let h : first_of (holds_id c.args.id) xs < length xs = omega arith in
     record { value = ap Err c.new.ensures ∙ sym (add_present c.args.id xs h); after = refl }
@@ -23,5 +23,5 @@ returns c =
     let f : first_of is_free xs < length xs = omega arith in
     record {
       value = sym (add_done c.args.id xs h f);
-      after = (first_of is_free xs, free_low xs, ap (λ (i : ℕ). filled (set xs i (place_of c.args.id c.args.session))) c.first-free-i.ensures.value ∙ free_put c.args.id c.args.session xs f);
+      after = (first_of is_free xs, free_low xs, ap (λ (i : ℕ). filled (set xs i (place_of c.args.id c.args.session))) c.first_free-i.ensures.value ∙ free_put c.args.id c.args.session xs f);
     }

@@ -14,4 +14,4 @@ pub returns : goal.returns
 returns c =
     let xs = c.args.places.now in
     let h : first_of (holds_id c.args.id) xs < length xs = omega arith in
-    record { value = sym (need_there c.args.id xs h); after = ap (λ (i : ℕ). filled (set xs i free_place)) c.place-of-i.ensures.value ∙ place_wiped c.args.id xs h }
+    record { value = sym (need_there c.args.id xs h); after = ap (λ (i : ℕ). filled (set xs i free_place)) c.place_of-i.ensures.value ∙ place_wiped c.args.id xs h }

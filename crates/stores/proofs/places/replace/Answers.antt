@@ -14,4 +14,4 @@ pub returns : goal.returns
 returns c =
     let xs = c.args.places.now in
     let h : first_of (holds_id c.args.id) xs < length xs = omega arith in
-    record { value = sym (need_there c.args.id xs h); after = ap (λ (i : ℕ). filled (set xs i (renewed (get_or xs i free_place) c.args.session))) c.place-of-i.ensures.value ∙ place_put c.args.id c.args.session xs h }
+    record { value = sym (need_there c.args.id xs h); after = ap (λ (i : ℕ). filled (set xs i (renewed (get_or xs i free_place) c.args.session))) c.place_of-i.ensures.value ∙ place_put c.args.id c.args.session xs h }

@@ -13,4 +13,4 @@ pub returns : goal.returns
 returns c =
     let xs = c.args.places.now in
     let h : first_of (holds_id c.args.id) xs < length xs = omega arith in
-    ap (λ (i : ℕ). Some (get_or xs i free_place).session) c.place-of-i.ensures.value ∙ sym (place_found c.args.id xs h)
+    ap (λ (i : ℕ). Some (get_or xs i free_place).session) c.place_of-i.ensures.value ∙ sym (place_found c.args.id xs h)

@@ -2,5 +2,5 @@ use Rattle.std.proofs.Common.{sym, ◌∙◌}
 use Rattle.keys.proofs.Deciding.{tests_decide}
 use Rattle.keys.proofs.keys.Keys.is_sound.Goals as goal
 
-pub returns-then-sending-is-sound : goal.returns-then-sending-is-sound
-returns-then-sending-is-sound c = tests_decide c.args.self _ (sym c.sending-is-sound.ensures ∙ c.if-sending-is-sound.true) c.slots-are-sound.ensures
+pub returns-then-sending_is_sound : goal.returns-then-sending_is_sound
+returns-then-sending_is_sound c = tests_decide c.args.self _ (sym c.sending_is_sound.ensures ∙ c.if-sending_is_sound.true) c.slots_are_sound.ensures

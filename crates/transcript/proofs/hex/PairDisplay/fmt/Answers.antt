@@ -6,5 +6,5 @@ use Rattle.transcript.proofs.hex.PairDisplay.fmt.Goals as goal
 pub returns-clause-writes : goal.returns-clause-writes
 returns-clause-writes g c plain ok =
     has_written_of_eq g.W.Write.write_str_gives _ _ _ _
-    (pair_text c.hex-digit-high.result c.hex-digit-low.result c.args.self.now.octet (omega arith) c.hex-digit-high.ensures c.hex-digit-low.ensures)
+    (pair_text c.hex_digit-high.result c.hex_digit-low.result c.args.self.now.octet (omega arith) c.hex_digit-high.ensures c.hex_digit-low.ensures)
     (c.write.ensures.shows plain ok)

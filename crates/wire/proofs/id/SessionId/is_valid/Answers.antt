@@ -3,4 +3,4 @@ use Rattle.wire.proofs.Ids.{valid_is}
 use Rattle.wire.proofs.id.SessionId.is_valid.Goals as goal
 
 pub returns : goal.returns
-returns c = valid_is c.args.self _ (0 ∷ 0 ∷ 0 ∷ 0 ∷ []) _ _ _ _ c.width-n.ensures.value (omega arith) c.write-number.ensures c.from-octets.ensures c.is-some.ensures
+returns c = valid_is c.args.self _ (0 ∷ 0 ∷ 0 ∷ 0 ∷ []) _ _ _ _ c.width-n.ensures.value (omega arith) c.write_number.ensures c.from_octets.ensures c.is_some.ensures
