@@ -84,8 +84,8 @@ fn begin<S: SessionStore, C: Suite>(
     id: &[u8],
     fields: BeginFields,
 ) -> Answer<'static>
-    ensures outcome { outcome_of result ≡ outcome_on (viewed (meaning S.SessionStore.pairs S.SessionStore.capacity C.Suite.keystream C.Suite.tag_of C.Suite.size end.old)) (to_begin id.now fields) }
-    ensures goes { GoesOn (meaning S.SessionStore.pairs S.SessionStore.capacity C.Suite.keystream C.Suite.tag_of C.Suite.size end.old) (meaning S.SessionStore.pairs S.SessionStore.capacity C.Suite.keystream C.Suite.tag_of C.Suite.size end.new) (to_begin id.now fields) }
+    ensures outcome { outcome_of result ≡ outcome_on (viewed (meaning S.pairs S.capacity C.keystream C.tag_of C.size end.old)) (to_begin id.now fields) }
+    ensures goes { GoesOn (meaning S.pairs S.capacity C.keystream C.tag_of C.size end.old) (meaning S.pairs S.capacity C.keystream C.tag_of C.size end.new) (to_begin id.now fields) }
 {
     let raw = RawSettings {
         tag: fields.tag,
@@ -101,8 +101,8 @@ fn give<S: SessionStore, C: Suite>(
     id: &[u8],
     key: KeyFields,
 ) -> Answer<'static>
-    ensures outcome { outcome_of result ≡ outcome_on (viewed (meaning S.SessionStore.pairs S.SessionStore.capacity C.Suite.keystream C.Suite.tag_of C.Suite.size end.old)) (to_give id.now key) }
-    ensures goes { GoesOn (meaning S.SessionStore.pairs S.SessionStore.capacity C.Suite.keystream C.Suite.tag_of C.Suite.size end.old) (meaning S.SessionStore.pairs S.SessionStore.capacity C.Suite.keystream C.Suite.tag_of C.Suite.size end.new) (to_give id.now key) }
+    ensures outcome { outcome_of result ≡ outcome_on (viewed (meaning S.pairs S.capacity C.keystream C.tag_of C.size end.old)) (to_give id.now key) }
+    ensures goes { GoesOn (meaning S.pairs S.capacity C.keystream C.tag_of C.size end.old) (meaning S.pairs S.capacity C.keystream C.tag_of C.size end.new) (to_give id.now key) }
 {
     plain(end.give(id, key.key, keyset(key)))
 }
@@ -113,8 +113,8 @@ fn choose<S: SessionStore, C: Suite>(
     id: &[u8],
     key: u64,
 ) -> Answer<'static>
-    ensures outcome { outcome_of result ≡ outcome_on (viewed (meaning S.SessionStore.pairs S.SessionStore.capacity C.Suite.keystream C.Suite.tag_of C.Suite.size end.old)) (to_choose id.now key) }
-    ensures goes { GoesOn (meaning S.SessionStore.pairs S.SessionStore.capacity C.Suite.keystream C.Suite.tag_of C.Suite.size end.old) (meaning S.SessionStore.pairs S.SessionStore.capacity C.Suite.keystream C.Suite.tag_of C.Suite.size end.new) (to_choose id.now key) }
+    ensures outcome { outcome_of result ≡ outcome_on (viewed (meaning S.pairs S.capacity C.keystream C.tag_of C.size end.old)) (to_choose id.now key) }
+    ensures goes { GoesOn (meaning S.pairs S.capacity C.keystream C.tag_of C.size end.old) (meaning S.pairs S.capacity C.keystream C.tag_of C.size end.new) (to_choose id.now key) }
 {
     plain(end.choose(id, key))
 }
@@ -125,16 +125,16 @@ fn drop_key<S: SessionStore, C: Suite>(
     id: &[u8],
     key: u64,
 ) -> Answer<'static>
-    ensures outcome { outcome_of result ≡ outcome_on (viewed (meaning S.SessionStore.pairs S.SessionStore.capacity C.Suite.keystream C.Suite.tag_of C.Suite.size end.old)) (to_drop id.now key) }
-    ensures goes { GoesOn (meaning S.SessionStore.pairs S.SessionStore.capacity C.Suite.keystream C.Suite.tag_of C.Suite.size end.old) (meaning S.SessionStore.pairs S.SessionStore.capacity C.Suite.keystream C.Suite.tag_of C.Suite.size end.new) (to_drop id.now key) }
+    ensures outcome { outcome_of result ≡ outcome_on (viewed (meaning S.pairs S.capacity C.keystream C.tag_of C.size end.old)) (to_drop id.now key) }
+    ensures goes { GoesOn (meaning S.pairs S.capacity C.keystream C.tag_of C.size end.old) (meaning S.pairs S.capacity C.keystream C.tag_of C.size end.new) (to_drop id.now key) }
 {
     effected(end.drop_key(id, key))
 }
 
 // End.
 fn end_session<S: SessionStore, C: Suite>(end: &mut Endpoint<S, C>, id: &[u8]) -> Answer<'static>
-    ensures outcome { outcome_of result ≡ outcome_on (viewed (meaning S.SessionStore.pairs S.SessionStore.capacity C.Suite.keystream C.Suite.tag_of C.Suite.size end.old)) (to_end id.now) }
-    ensures goes { GoesOn (meaning S.SessionStore.pairs S.SessionStore.capacity C.Suite.keystream C.Suite.tag_of C.Suite.size end.old) (meaning S.SessionStore.pairs S.SessionStore.capacity C.Suite.keystream C.Suite.tag_of C.Suite.size end.new) (to_end id.now) }
+    ensures outcome { outcome_of result ≡ outcome_on (viewed (meaning S.pairs S.capacity C.keystream C.tag_of C.size end.old)) (to_end id.now) }
+    ensures goes { GoesOn (meaning S.pairs S.capacity C.keystream C.tag_of C.size end.old) (meaning S.pairs S.capacity C.keystream C.tag_of C.size end.new) (to_end id.now) }
 {
     plain(end.end(id))
 }
@@ -154,8 +154,8 @@ fn seal<S: SessionStore, C: Suite>(
     number: usize,
     out: &mut String,
 ) -> Result<(), AllocError>
-    ensures text { string_bytes out.new ≡ (if is_ok result then string_bytes out.old ++ line_of number (seal_outcome (viewed (meaning S.SessionStore.pairs S.SessionStore.capacity C.Suite.keystream C.Suite.tag_of C.Suite.size end.old)) plane id.now content.now) else string_bytes out.old) }
-    ensures goes { SealGoesOn (meaning S.SessionStore.pairs S.SessionStore.capacity C.Suite.keystream C.Suite.tag_of C.Suite.size end.old) (meaning S.SessionStore.pairs S.SessionStore.capacity C.Suite.keystream C.Suite.tag_of C.Suite.size end.new) plane id.now content.now }
+    ensures text { string_bytes out.new ≡ (if is_ok result then string_bytes out.old ++ line_of number (seal_outcome (viewed (meaning S.pairs S.capacity C.keystream C.tag_of C.size end.old)) plane id.now content.now) else string_bytes out.old) }
+    ensures goes { SealGoesOn (meaning S.pairs S.capacity C.keystream C.tag_of C.size end.old) (meaning S.pairs S.capacity C.keystream C.tag_of C.size end.new) plane id.now content.now }
 {
     let mut buffer = [0u8; LONGEST_MESSAGE];
     match end.seal(plane, id, content, &mut buffer) {
@@ -191,8 +191,8 @@ fn hear<S: SessionStore, C: Suite>(
     number: usize,
     out: &mut String,
 ) -> Result<(), AllocError>
-    ensures text { string_bytes out.new ≡ (if is_ok result then string_bytes out.old ++ line_of number (outcome_on (viewed (meaning S.SessionStore.pairs S.SessionStore.capacity C.Suite.keystream C.Suite.tag_of C.Suite.size end.old)) (to_hear message.old)) else string_bytes out.old) }
-    ensures goes { GoesOn (meaning S.SessionStore.pairs S.SessionStore.capacity C.Suite.keystream C.Suite.tag_of C.Suite.size end.old) (meaning S.SessionStore.pairs S.SessionStore.capacity C.Suite.keystream C.Suite.tag_of C.Suite.size end.new) (to_hear message.old) }
+    ensures text { string_bytes out.new ≡ (if is_ok result then string_bytes out.old ++ line_of number (outcome_on (viewed (meaning S.pairs S.capacity C.keystream C.tag_of C.size end.old)) (to_hear message.old)) else string_bytes out.old) }
+    ensures goes { GoesOn (meaning S.pairs S.capacity C.keystream C.tag_of C.size end.old) (meaning S.pairs S.capacity C.keystream C.tag_of C.size end.new) (to_hear message.old) }
 {
     match end.hear(message) {
         Ok(heard) => tell(heard, message, number, out),
@@ -207,8 +207,8 @@ pub(crate) fn perform<S: SessionStore, C: Suite>(
     number: usize,
     out: &mut String,
 ) -> Result<(), AllocError>
-    ensures text { string_bytes out.new ≡ (if is_ok result then string_bytes out.old ++ line_of number (outcome_on (viewed (meaning S.SessionStore.pairs S.SessionStore.capacity C.Suite.keystream C.Suite.tag_of C.Suite.size end.old)) (asked request)) else string_bytes out.old) }
-    ensures goes { GoesOn (meaning S.SessionStore.pairs S.SessionStore.capacity C.Suite.keystream C.Suite.tag_of C.Suite.size end.old) (meaning S.SessionStore.pairs S.SessionStore.capacity C.Suite.keystream C.Suite.tag_of C.Suite.size end.new) (asked request) }
+    ensures text { string_bytes out.new ≡ (if is_ok result then string_bytes out.old ++ line_of number (outcome_on (viewed (meaning S.pairs S.capacity C.keystream C.tag_of C.size end.old)) (asked request)) else string_bytes out.old) }
+    ensures goes { GoesOn (meaning S.pairs S.capacity C.keystream C.tag_of C.size end.old) (meaning S.pairs S.capacity C.keystream C.tag_of C.size end.new) (asked request) }
 {
     match request {
         Request::Begin(id, fields) => append_line(out, number, begin(end, id.as_slice(), fields)),

@@ -41,8 +41,8 @@ fn answer<S: SessionStore, R: SessionStore, C: Suite>(
     number: usize,
     out: &mut String,
 ) -> Result<(), AllocError>
-    ensures text { string_bytes out.new ≡ (if is_ok result then string_bytes out.old ++ line_of number (outcome_for (both (meaning S.SessionStore.pairs S.SessionStore.capacity C.Suite.keystream C.Suite.tag_of C.Suite.size logger.old) (meaning R.SessionStore.pairs R.SessionStore.capacity C.Suite.keystream C.Suite.tag_of C.Suite.size service.old)) (option_map asked_line line)) else string_bytes out.old) }
-    ensures go { BothGoOn (meaning S.SessionStore.pairs S.SessionStore.capacity C.Suite.keystream C.Suite.tag_of C.Suite.size logger.old) (meaning R.SessionStore.pairs R.SessionStore.capacity C.Suite.keystream C.Suite.tag_of C.Suite.size service.old) (meaning S.SessionStore.pairs S.SessionStore.capacity C.Suite.keystream C.Suite.tag_of C.Suite.size logger.new) (meaning R.SessionStore.pairs R.SessionStore.capacity C.Suite.keystream C.Suite.tag_of C.Suite.size service.new) (option_map asked_line line) }
+    ensures text { string_bytes out.new ≡ (if is_ok result then string_bytes out.old ++ line_of number (outcome_for (both (meaning S.pairs S.capacity C.keystream C.tag_of C.size logger.old) (meaning R.pairs R.capacity C.keystream C.tag_of C.size service.old)) (option_map asked_line line)) else string_bytes out.old) }
+    ensures go { BothGoOn (meaning S.pairs S.capacity C.keystream C.tag_of C.size logger.old) (meaning R.pairs R.capacity C.keystream C.tag_of C.size service.old) (meaning S.pairs S.capacity C.keystream C.tag_of C.size logger.new) (meaning R.pairs R.capacity C.keystream C.tag_of C.size service.new) (option_map asked_line line) }
 {
     match line {
         None => append_line(out, number, bad()),
@@ -60,9 +60,9 @@ fn play<S: SessionStore, R: SessionStore, C: Suite>(
     heap: Global,
     input: &[u8],
 ) -> Result<String, AllocError>
-    requires logger_kept { Kept (S.SessionStore.pairs logger.old.store) }
-    requires service_kept { Kept (R.SessionStore.pairs service.old.store) }
-    ensures { IfOk result (λ out. string_bytes out ≡ answers_to (both (meaning S.SessionStore.pairs S.SessionStore.capacity C.Suite.keystream C.Suite.tag_of C.Suite.size logger.old) (meaning R.SessionStore.pairs R.SessionStore.capacity C.Suite.keystream C.Suite.tag_of C.Suite.size service.old)) 0 (lines_of input.now)) }
+    requires logger_kept { Kept (S.pairs logger.old.store) }
+    requires service_kept { Kept (R.pairs service.old.store) }
+    ensures { IfOk result (λ out. string_bytes out ≡ answers_to (both (meaning S.pairs S.capacity C.keystream C.tag_of C.size logger.old) (meaning R.pairs R.capacity C.keystream C.tag_of C.size service.old)) 0 (lines_of input.now)) }
 {
     let mut out = String::new(heap);
     let mut number: usize = 0;

@@ -21,8 +21,8 @@ impl<S: SessionStore, C: Suite> Endpoint<S, C> {
     // An end in this role. Its store is emptied.
     pub fn new(role: Role, store: S, suite: C) -> Endpoint<S, C>
         ensures parts { (result.role ≡ role) × (result.suite ≡ suite) }
-        ensures empty { S.SessionStore.pairs result.store ≡ [] }
-        ensures room { S.SessionStore.capacity result.store ≡ S.SessionStore.capacity store }
+        ensures empty { S.pairs result.store ≡ [] }
+        ensures room { S.capacity result.store ≡ S.capacity store }
     {
         let mut emptied = store;
         while let Some(id) = emptied.name(0) {
@@ -37,8 +37,8 @@ impl<S: SessionStore, C: Suite> Endpoint<S, C> {
 
     // The session of an ID. `place` is where the ID stands in a message, or 0.
     pub(crate) fn find(&self, id: SessionId, place: usize) -> Result<Session, Fault>
-        ensures value { result ≡ found (lookup (S.SessionStore.pairs self.now.store)) id place }
-        ensures there { IfOk result (λ s. lookup (S.SessionStore.pairs self.now.store) id ≡ Some s) }
+        ensures value { result ≡ found (lookup (S.pairs self.now.store)) id place }
+        ensures there { IfOk result (λ s. lookup (S.pairs self.now.store) id ≡ Some s) }
     {
         let Some(session) = self.store.look(id) else {
             return Err(Fault::new(Refusal::NoSession, place));

@@ -72,8 +72,8 @@ impl Plan {
 
 impl<S: SessionStore, C: Suite> Endpoint<S, C> {
     fn judge(&self, message: &[u8]) -> Result<Judged, Fault>
-        ensures value { result ≡ judged (viewed (meaning S.SessionStore.pairs S.SessionStore.capacity C.Suite.keystream C.Suite.tag_of C.Suite.size self.now)) message.now }
-        ensures stands { IfOk result (Stands (S.SessionStore.pairs self.now.store) (length message.now)) }
+        ensures value { result ≡ judged (viewed (meaning S.pairs S.capacity C.keystream C.tag_of C.size self.now)) message.now }
+        ensures stands { IfOk result (Stands (S.pairs self.now.store) (length message.now)) }
     {
         let front = read_front(message)?;
         let header = front.header;
@@ -88,9 +88,9 @@ impl<S: SessionStore, C: Suite> Endpoint<S, C> {
 
     // Reads a message in place. An accepted one is then in clear, and its session has counted it; a refused one is as it arrived.
     pub fn hear(&mut self, message: &mut [u8]) -> Result<Heard, Fault>
-        ensures value { result ≡ hear_answer (viewed (meaning S.SessionStore.pairs S.SessionStore.capacity C.Suite.keystream C.Suite.tag_of C.Suite.size self.old)) message.old }
-        ensures buffer { message.new ≡ hear_buffer (viewed (meaning S.SessionStore.pairs S.SessionStore.capacity C.Suite.keystream C.Suite.tag_of C.Suite.size self.old)) message.old }
-        ensures end { meaning S.SessionStore.pairs S.SessionStore.capacity C.Suite.keystream C.Suite.tag_of C.Suite.size self.new ≡ hear_end (meaning S.SessionStore.pairs S.SessionStore.capacity C.Suite.keystream C.Suite.tag_of C.Suite.size self.old) message.old }
+        ensures value { result ≡ hear_answer (viewed (meaning S.pairs S.capacity C.keystream C.tag_of C.size self.old)) message.old }
+        ensures buffer { message.new ≡ hear_buffer (viewed (meaning S.pairs S.capacity C.keystream C.tag_of C.size self.old)) message.old }
+        ensures end { meaning S.pairs S.capacity C.keystream C.tag_of C.size self.new ≡ hear_end (meaning S.pairs S.capacity C.keystream C.tag_of C.size self.old) message.old }
         ensures inside { IfOk result (λ h. h.place + h.length ≤ length message.old) }
     {
         let judged = self.judge(message)?;
@@ -100,8 +100,8 @@ impl<S: SessionStore, C: Suite> Endpoint<S, C> {
     }
 
     fn plan(&self, plane: Plane, id: &[u8], content: &[u8], room: usize) -> Result<Plan, Fault>
-        ensures value { result ≡ sealing (viewed (meaning S.SessionStore.pairs S.SessionStore.capacity C.Suite.keystream C.Suite.tag_of C.Suite.size self.now)) plane id.now content.now room }
-        ensures writable { IfOk result (Writable (S.SessionStore.pairs self.now.store) (length content.now) room) }
+        ensures value { result ≡ sealing (viewed (meaning S.pairs S.capacity C.keystream C.tag_of C.size self.now)) plane id.now content.now room }
+        ensures writable { IfOk result (Writable (S.pairs self.now.store) (length content.now) room) }
     {
         let id = session_id(id)?;
         check_content(plane, content)?;
@@ -130,9 +130,9 @@ impl<S: SessionStore, C: Suite> Endpoint<S, C> {
         content: &[u8],
         out: &mut [u8],
     ) -> Result<usize, Fault>
-        ensures value { result ≡ seal_answer (viewed (meaning S.SessionStore.pairs S.SessionStore.capacity C.Suite.keystream C.Suite.tag_of C.Suite.size self.old)) plane id.now content.now (length out.old) }
-        ensures buffer { out.new ≡ seal_buffer (viewed (meaning S.SessionStore.pairs S.SessionStore.capacity C.Suite.keystream C.Suite.tag_of C.Suite.size self.old)) plane id.now content.now out.old }
-        ensures end { meaning S.SessionStore.pairs S.SessionStore.capacity C.Suite.keystream C.Suite.tag_of C.Suite.size self.new ≡ seal_end (meaning S.SessionStore.pairs S.SessionStore.capacity C.Suite.keystream C.Suite.tag_of C.Suite.size self.old) plane id.now content.now (length out.old) }
+        ensures value { result ≡ seal_answer (viewed (meaning S.pairs S.capacity C.keystream C.tag_of C.size self.old)) plane id.now content.now (length out.old) }
+        ensures buffer { out.new ≡ seal_buffer (viewed (meaning S.pairs S.capacity C.keystream C.tag_of C.size self.old)) plane id.now content.now out.old }
+        ensures end { meaning S.pairs S.capacity C.keystream C.tag_of C.size self.new ≡ seal_end (meaning S.pairs S.capacity C.keystream C.tag_of C.size self.old) plane id.now content.now (length out.old) }
         ensures within { IfOk result (λ n. n ≤ length out.old) }
     {
         let plan = self.plan(plane, id, content, out.len())?;

@@ -47,9 +47,9 @@ impl<S: SessionStore, C: Suite> Endpoint<S, C> {
         key: u64,
         keyset: Keyset,
     ) -> Result<(), Fault>
-        ensures value { result ≡ begin_answer (viewed (meaning S.SessionStore.pairs S.SessionStore.capacity C.Suite.keystream C.Suite.tag_of C.Suite.size self.old)) id.now raw key keyset }
-        ensures pairs { Begun (S.SessionStore.pairs self.old.store) (S.SessionStore.pairs self.new.store) (beginning (viewed (meaning S.SessionStore.pairs S.SessionStore.capacity C.Suite.keystream C.Suite.tag_of C.Suite.size self.old)) id.now raw key keyset) result }
-        ensures end { meaning S.SessionStore.pairs S.SessionStore.capacity C.Suite.keystream C.Suite.tag_of C.Suite.size self.new ≡ with_pairs (meaning S.SessionStore.pairs S.SessionStore.capacity C.Suite.keystream C.Suite.tag_of C.Suite.size self.old) (S.SessionStore.pairs self.new.store) }
+        ensures value { result ≡ begin_answer (viewed (meaning S.pairs S.capacity C.keystream C.tag_of C.size self.old)) id.now raw key keyset }
+        ensures pairs { Begun (S.pairs self.old.store) (S.pairs self.new.store) (beginning (viewed (meaning S.pairs S.capacity C.keystream C.tag_of C.size self.old)) id.now raw key keyset) result }
+        ensures end { meaning S.pairs S.capacity C.keystream C.tag_of C.size self.new ≡ with_pairs (meaning S.pairs S.capacity C.keystream C.tag_of C.size self.old) (S.pairs self.new.store) }
     {
         let id = session_id(id)?;
         let settings = settings(self.role, self.suite.tag_length(), raw)?;
@@ -59,7 +59,7 @@ impl<S: SessionStore, C: Suite> Endpoint<S, C> {
 
     // How many messages of a session were sealed, accepted and missed.
     pub fn report(&self, id: &[u8]) -> Result<Report, Fault>
-        ensures { result ≡ report_answer (viewed (meaning S.SessionStore.pairs S.SessionStore.capacity C.Suite.keystream C.Suite.tag_of C.Suite.size self.now)) id.now }
+        ensures { result ≡ report_answer (viewed (meaning S.pairs S.capacity C.keystream C.tag_of C.size self.now)) id.now }
     {
         let id = session_id(id)?;
         let session = self.find(id, 0)?;
@@ -71,8 +71,8 @@ impl<S: SessionStore, C: Suite> Endpoint<S, C> {
 
     // Removes a session.
     pub fn end(&mut self, id: &[u8]) -> Result<(), Fault>
-        ensures value { result ≡ end_answer (viewed (meaning S.SessionStore.pairs S.SessionStore.capacity C.Suite.keystream C.Suite.tag_of C.Suite.size self.old)) id.now }
-        ensures end { meaning S.SessionStore.pairs S.SessionStore.capacity C.Suite.keystream C.Suite.tag_of C.Suite.size self.new ≡ end_end (meaning S.SessionStore.pairs S.SessionStore.capacity C.Suite.keystream C.Suite.tag_of C.Suite.size self.old) id.now }
+        ensures value { result ≡ end_answer (viewed (meaning S.pairs S.capacity C.keystream C.tag_of C.size self.old)) id.now }
+        ensures end { meaning S.pairs S.capacity C.keystream C.tag_of C.size self.new ≡ end_end (meaning S.pairs S.capacity C.keystream C.tag_of C.size self.old) id.now }
     {
         let id = session_id(id)?;
         self.store.take(id)

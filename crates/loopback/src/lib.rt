@@ -20,7 +20,7 @@ pub fn loopback<C: Suite>(
     content: &[u8],
     buffer: &mut [u8],
 ) -> Result<Opened, Fault>
-    ensures { Looped (keystream suite.now) (tag_of suite.now) (size suite.now) protection header content.now buffer.old buffer.new result }
+    ensures { Looped (C.keystream suite.now) (C.tag_of suite.now) (C.size suite.now) protection header content.now buffer.old buffer.new result }
 {
     let n = seal(suite, protection, header, content, buffer)?;
     open(suite, protection, &mut buffer[0..n])

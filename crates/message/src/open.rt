@@ -35,7 +35,7 @@ fn same_octets(a: &[u8], b: &[u8]) -> bool
 // Deciphers what stands from `to` on, or enciphers it again.
 fn decipher<C: Suite>(suite: &C, keys: Keyset, inputs: Inputs, to: usize, message: &mut [u8])
     requires { to ≤ length message.old }
-    ensures { message.new ≡ cleared (keystream suite.now keys inputs) to message.old }
+    ensures { message.new ≡ cleared (C.keystream suite.now keys inputs) to message.old }
 {
     let n = message.len();
     suite.encipher(keys, inputs, &mut message[to..n]);
@@ -43,7 +43,7 @@ fn decipher<C: Suite>(suite: &C, keys: Keyset, inputs: Inputs, to: usize, messag
 
 fn tag_matches<C: Suite>(suite: &C, keys: Keyset, inputs: Inputs, w: Layout, message: &[u8]) -> bool
     requires ordered { Ordered w (length message.now) }
-    ensures { result ≡ tag_matches (tag_of suite.now keys inputs) w message.now }
+    ensures { result ≡ tag_matches (C.tag_of suite.now keys inputs) w message.now }
 {
     let (from, tag_at, end) = (w.from, w.tag, w.end);
     let tag = suite.tag(keys, inputs, &message[from..tag_at]);
@@ -67,7 +67,7 @@ fn check<C: Suite>(
     message: &[u8],
 ) -> Result<(), Fault>
     requires ordered { Ordered w (length message.now) }
-    ensures { result ≡ checked (tag_of suite.now keys inputs) w message.now }
+    ensures { result ≡ checked (C.tag_of suite.now keys inputs) w message.now }
 {
     if !tag_matches(suite, keys, inputs, w, message) {
         return Err(Fault::new(Refusal::TagDiffers, w.tag));
@@ -86,8 +86,8 @@ pub fn open_body<C: Suite>(
     message: &mut [u8],
 ) -> Result<Opened, Fault>
     requires within { Within front (length message.old) }
-    ensures value { result ≡ body_answer (keystream suite.now) (tag_of suite.now) protection front message.old }
-    ensures after { message.new ≡ body_buffer (keystream suite.now) (tag_of suite.now) protection front message.old }
+    ensures value { result ≡ body_answer (C.keystream suite.now) (C.tag_of suite.now) protection front message.old }
+    ensures after { message.new ≡ body_buffer (C.keystream suite.now) (C.tag_of suite.now) protection front message.old }
     ensures inside { IfOk result (λ o. o.place + o.length ≤ length message.old) }
 {
     let w = protection.format.locate(front, message.len())?;
@@ -113,8 +113,8 @@ pub fn open<C: Suite>(
     protection: Protection,
     message: &mut [u8],
 ) -> Result<Opened, Fault>
-    ensures value { result ≡ open_answer (keystream suite.now) (tag_of suite.now) (size suite.now) protection message.old }
-    ensures after { message.new ≡ open_buffer (keystream suite.now) (tag_of suite.now) (size suite.now) protection message.old }
+    ensures value { result ≡ open_answer (C.keystream suite.now) (C.tag_of suite.now) (C.size suite.now) protection message.old }
+    ensures after { message.new ≡ open_buffer (C.keystream suite.now) (C.tag_of suite.now) (C.size suite.now) protection message.old }
     ensures inside { IfOk result (λ o. o.place + o.length ≤ length message.old) }
 {
     if protection.format.tag.octets() > suite.tag_length() {

@@ -53,7 +53,7 @@ fn write_clear(format: Format, header: Header, w: Layout, content: &[u8], out: &
 fn protect<C: Suite>(suite: &C, keys: Keyset, inputs: Inputs, w: Layout, out: &mut [u8])
     requires ordered { Ordered w w.end }
     requires room { w.end ≤ length out.old }
-    ensures { out.new ≡ take w.to out.old ++ (enciphered (keystream suite.now keys inputs) 0 (between w.to w.tag out.old ++ take (w.end - w.tag) (padded (tag_of suite.now keys inputs (between w.from w.tag out.old)))) ++ drop w.end out.old) }
+    ensures { out.new ≡ take w.to out.old ++ (enciphered (C.keystream suite.now keys inputs) 0 (between w.to w.tag out.old ++ take (w.end - w.tag) (padded (C.tag_of suite.now keys inputs (between w.from w.tag out.old)))) ++ drop w.end out.old) }
 {
     let (from, to, tag_at, end) = (w.from, w.to, w.tag, w.end);
     let tag = suite.tag(keys, inputs, &out[from..tag_at]);
@@ -73,7 +73,7 @@ pub fn write_message<C: Suite>(
     requires key { header.key < 8 }
     requires laid { Laid protection.format header (length content.now) w }
     requires room { w.end ≤ length out.old }
-    ensures { out.new ≡ message (keystream suite.now) (tag_of suite.now) protection header (counter_octets header.counter) content.now ++ drop w.end out.old }
+    ensures { out.new ≡ message (C.keystream suite.now) (C.tag_of suite.now) protection header (counter_octets header.counter) content.now ++ drop w.end out.old }
 {
     write_clear(protection.format, header, w, content, out);
     protect(suite, protection.keys, protection.inputs(header), w, out);
@@ -87,8 +87,8 @@ pub fn seal<C: Suite>(
     content: &[u8],
     out: &mut [u8],
 ) -> Result<usize, Fault>
-    ensures value { result ≡ seal_answer (size suite.now) protection header (length content.now) (length out.old) }
-    ensures after { out.new ≡ seal_buffer (keystream suite.now) (tag_of suite.now) (size suite.now) protection header content.now out.old }
+    ensures value { result ≡ seal_answer (C.size suite.now) protection header (length content.now) (length out.old) }
+    ensures after { out.new ≡ seal_buffer (C.keystream suite.now) (C.tag_of suite.now) (C.size suite.now) protection header content.now out.old }
     ensures within { IfOk result (λ n. n ≤ length out.old) }
 {
     if !in_range(suite.tag_length(), protection.format, header, content.len()) {

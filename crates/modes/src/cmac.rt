@@ -20,7 +20,7 @@ fn doubled(block: Block) -> Block
 
 // The subkey for a last block that is whole, or for one that is not.
 fn subkey<C: BlockCipher>(cipher: &C, whole: bool) -> Block
-    ensures { block_octets result ≡ (if whole then subkey1 (ciph cipher.now) else subkey2 (ciph cipher.now)) }
+    ensures { block_octets result ≡ (if whole then subkey1 (C.ciph cipher.now) else subkey2 (C.ciph cipher.now)) }
 {
     let first = doubled(cipher.encrypt(zero_block()));
     if whole { first } else { doubled(first) }
@@ -71,7 +71,7 @@ fn block_from(head: &[u8], message: &[u8], start: usize) -> Block
 
 // The tag of the text that is `head` and then `message`.
 pub fn cmac<C: BlockCipher>(cipher: &C, head: &[u8], message: &[u8]) -> Block
-    ensures { block_octets result ≡ cmac_of (ciph cipher.now) (head.now ++ message.now) }
+    ensures { block_octets result ≡ cmac_of (C.ciph cipher.now) (head.now ++ message.now) }
 {
     let len = head.len() + message.len();
     let before = len.saturating_sub(1) / 16;

@@ -15,8 +15,8 @@ fn octet_of(number: u128, place: usize) -> u8
 
 // The enciphered counter block for a place, which is the one before but at the first place of a block.
 fn block_for<C: BlockCipher>(cipher: &C, start: u64, place: usize, before: u128) -> u128
-    requires kept { 0 < place % 16 → Enciphers (ciph cipher.now) start (place / 16) before }
-    ensures { Enciphers (ciph cipher.now) start (place / 16) result }
+    requires kept { 0 < place % 16 → Enciphers (C.ciph cipher.now) start (place / 16) before }
+    ensures { Enciphers (C.ciph cipher.now) start (place / 16) result }
 {
     if place % 16 == 0 {
         number_of(cipher.encrypt(block_of(start, (place / 16) as u64)))
@@ -27,7 +27,7 @@ fn block_for<C: BlockCipher>(cipher: &C, start: u64, place: usize, before: u128)
 
 // Enciphers a part in place, or deciphers it; `start` is the first half of every counter block.
 pub fn encipher<C: BlockCipher>(cipher: &C, start: u64, part: &mut [u8])
-    ensures { part.new ≡ enciphered (counter_stream (ciph cipher.now) start) 0 part.old }
+    ensures { part.new ≡ enciphered (counter_stream (C.ciph cipher.now) start) 0 part.old }
 {
     let mut keystream = 0u128;
     for i in 0..part.len() {

@@ -71,7 +71,7 @@ record Admitted (s : Session) (plane : Plane) (n : ℕ) (h : HeldKey) : Type 0 w
 
 admission_tells : (s : Session) (plane : Plane) (key n : ℕ) (h : HeldKey) → admission s plane key n ≡ Ok h → Admitted s plane n h
 admission_tells s plane key n h e =
-    let a = and_then_went (keys.receivingKey key s.keys) _ h e in
+    let a = and_then_went (keys.receiving_key key s.keys) _ h e in
     let b = and_then_went (admitted (counters_of s plane) n s.settings.leap) _ h a.2 in
     let same : a.0 ≡ h = (let q = b.2 in cc) in
     record {
@@ -86,7 +86,7 @@ module _ (s : Session) (plane : Plane) (key n : ℕ) (h : Sound s) (k : HeldKey)
       let above = t.above in
       let most = h.counts plane in
       let enough : (counted (counters_of s plane) n).accepted ≤ n = omega arith in
-      with_counters_lem _ plane _ (with_keys_lem s _ h ((keeping.rules-are-kept).accept k.id s.keys h.keys t.held)) enough
+      with_counters_lem _ plane _ (with_keys_lem s _ h ((keeping.rules_are_kept).accept k.id s.keys h.keys t.held)) enough
 
   accepted-counted : n ≤ last_counter → (counters_of (accepted s plane k.id n) plane).accepted ≡ (counters_of s plane).accepted + 1
   accepted-counted short =
@@ -97,11 +97,11 @@ module _ (s : Session) (plane : Plane) (key n : ℕ) (h : Sound s) (k : HeldKey)
 
 pub rules_are_kept : RulesAreKept
 rules_are_kept = record {
-  new = λ settings k x l. record { leap = l; counts = none settings k x; keys = (keeping.rules-are-kept).first k x };
-  give = λ k x s h. then_keys s _ h ((keeping.rules-are-kept).give k x s.keys h.keys);
-  choose = λ k s h. then_keys s _ h ((keeping.rules-are-kept).choose k s.keys h.keys);
-  drop = λ k s h. change_keys s _ h ((keeping.rules-are-kept).drop k s.keys h.keys);
-  swap = λ new old x s h. then_change s (keys.swapped new old x s.keys) h ((keeping.rules-are-kept).swap new old x s.keys h.keys);
+  new = λ settings k x l. record { leap = l; counts = none settings k x; keys = (keeping.rules_are_kept).first k x };
+  give = λ k x s h. then_keys s _ h ((keeping.rules_are_kept).give k x s.keys h.keys);
+  choose = λ k s h. then_keys s _ h ((keeping.rules_are_kept).choose k s.keys h.keys);
+  drop = λ k s h. change_keys s _ h ((keeping.rules_are_kept).drop k s.keys h.keys);
+  swap = λ new old x s h. then_change s (keys.swapped new old x s.keys) h ((keeping.rules_are_kept).swap new old x s.keys h.keys);
   accept = λ s plane key n h k ok. accepted_sound s plane key n h k ok;
   count = λ s plane key n short h k ok. accepted-counted s plane key n h k ok short;
   seal = λ s plane n h. with_counters_lem s plane (sealed_up_to (counters_of s plane) n) h (h.counts plane);

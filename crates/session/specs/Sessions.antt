@@ -18,7 +18,7 @@ use Rattle.session.specs.declared.session.Outgoing.{Outgoing}
 use Rattle.session.specs.Counting.{new_counters, admitted, counted, next_counter, sealed_up_to}
 
 abbrev pub new_session : Settings → KeyId → Keyset → Session
-new_session settings k x = record { settings = settings; keys = keys.firstKey k x; control = new_counters; user = new_counters }
+new_session settings k x = record { settings = settings; keys = keys.first_key k x; control = new_counters; user = new_counters }
 
 abbrev pub counters_of : Session → Plane → Counters
 counters_of s Control = s.control
@@ -54,7 +54,7 @@ swapped new old x s = and_then (keys.swapped new old x s.keys) (λ c. Ok (change
 -- the key that a message names is held, and its counter may be accepted
 abbrev pub admission : Session → Plane → ℕ → ℕ → Result HeldKey Fault
 admission s plane key n =
-    and_then (keys.receivingKey key s.keys) (λ h.
+    and_then (keys.receiving_key key s.keys) (λ h.
     and_then (admitted (counters_of s plane) n s.settings.leap) (λ _.
     Ok h))
 
@@ -63,7 +63,7 @@ accepted s plane k n = with_counters (with_keys s (keys.used k s.keys)) plane (c
 
 abbrev pub outgoing : Session → Plane → Result Outgoing Fault
 outgoing s plane =
-    and_then (keys.sendingKey s.keys) (λ h.
+    and_then (keys.sending_key s.keys) (λ h.
     and_then (next_counter (counters_of s plane)) (λ n.
     Ok (record { key = h; counter = n })))
 

@@ -1,5 +1,5 @@
 use Rattle.script.proofs.Spelling.{no_side_text}
 use Rattle.script.proofs.words.side_of.Goals as goal
 
-pub returns-in-default : goal.returns-in-default
-returns-in-default c = no_side_text c.args.word.now c.in-default.ensures.cases.0
+pub returns-in_default : goal.returns-in_default
+returns-in_default c = no_side_text c.args.word.now c.in_default.ensures.cases.0
