@@ -96,7 +96,7 @@ module _ (e : EndMeaning) (h : Kept e.pairs) where
       step (key_asked n) _ p (SoundPair p) e1 (λ k _ e2.
       step (found (lookup e.pairs) id 0) _ p (SoundPair p) e2 (λ s there e3.
       step (session.given k x s) _ p (SoundPair p) e3 (λ t is e4.
-      last SoundPair (id, t) p e4 (made_ok Sound (session.given k x s) ((sessions.rules-are-kept).give k x s (sound_found id 0 s there)) t is)))))
+      last SoundPair (id, t) p e4 (made_ok Sound (session.given k x s) ((sessions.rules_are_kept).give k x s (sound_found id 0 s there)) t is)))))
 
   choose_sound : (octets : List ℕ) (n : ℕ) → Makes (choosing v octets n) SoundPair
   choose_sound octets n p e0 =
@@ -104,14 +104,14 @@ module _ (e : EndMeaning) (h : Kept e.pairs) where
       step (key_asked n) _ p (SoundPair p) e1 (λ k _ e2.
       step (found (lookup e.pairs) id 0) _ p (SoundPair p) e2 (λ s there e3.
       step (session.chosen k s) _ p (SoundPair p) e3 (λ t is e4.
-      last SoundPair (id, t) p e4 (made_ok Sound (session.chosen k s) ((sessions.rules-are-kept).choose k s (sound_found id 0 s there)) t is)))))
+      last SoundPair (id, t) p e4 (made_ok Sound (session.chosen k s) ((sessions.rules_are_kept).choose k s (sound_found id 0 s there)) t is)))))
 
   drop_sound : (octets : List ℕ) (n : ℕ) → Makes (dropping v octets n) SoundChange
   drop_sound octets n p e0 =
       step (id_asked octets) _ p (SoundChange p) e0 (λ id _ e1.
       step (key_asked n) _ p (SoundChange p) e1 (λ k _ e2.
       step (found (lookup e.pairs) id 0) _ p (SoundChange p) e2 (λ s there e3.
-      last SoundChange (id, session.dropped k s) p e3 ((sessions.rules-are-kept).drop k s (sound_found id 0 s there)))))
+      last SoundChange (id, session.dropped k s) p e3 ((sessions.rules_are_kept).drop k s (sound_found id 0 s there)))))
 
   swap_sound : (octets : List ℕ) (new old : ℕ) (x : Keyset) → Makes (swapping v octets new old x) SoundChange
   swap_sound octets new old x p e0 =
@@ -120,7 +120,7 @@ module _ (e : EndMeaning) (h : Kept e.pairs) where
       step (key_asked old) _ p (SoundChange p) e2 (λ j _ e3.
       step (found (lookup e.pairs) id 0) _ p (SoundChange p) e3 (λ s there e4.
       step (session.swapped k j x s) _ p (SoundChange p) e4 (λ c is e5.
-      last SoundChange (id, c) p e5 (made_ok (Leaves Sound) (session.swapped k j x s) ((sessions.rules-are-kept).swap k j x s (sound_found id 0 s there)) c is))))))
+      last SoundChange (id, c) p e5 (made_ok (Leaves Sound) (session.swapped k j x s) ((sessions.rules_are_kept).swap k j x s (sound_found id 0 s there)) c is))))))
 
   -- the session of a plan is the one found
   plan_sound : (plane : Plane) (octets content : List ℕ) (room : ℕ) → Makes (sealing v plane octets content room) (λ p. Sound p.session)
@@ -136,7 +136,7 @@ module _ (e : EndMeaning) (h : Kept e.pairs) where
   seal_sound plane octets content room q e0 =
       step (sealing v plane octets content room) _ q (SoundPair q) e0 (λ p is e1.
       last SoundPair (p.header.id, session.sealed p.session plane p.header.counter) q e1
-      ((sessions.rules-are-kept).seal p.session plane p.header.counter (plan_sound plane octets content room p is)))
+      ((sessions.rules_are_kept).seal p.session plane p.header.counter (plan_sound plane octets content room p is)))
 
   -- what was judged may be accepted
   judge_sound : (m : List ℕ) → Makes (judged v m) (λ j. Sound (accepted_in j))
@@ -145,7 +145,7 @@ module _ (e : EndMeaning) (h : Kept e.pairs) where
       step (found (lookup e.pairs) f.header.id f.from) _ j (Sound (accepted_in j)) e1 (λ s there e2.
       step (session.admission s f.header.plane f.header.key f.header.counter) _ j (Sound (accepted_in j)) e2 (λ k is e3.
       last (λ (q : Judged). Sound (accepted_in q)) _ j e3
-      ((sessions.rules-are-kept).accept s f.header.plane f.header.key f.header.counter (sound_found f.header.id f.from s there) k is))))
+      ((sessions.rules_are_kept).accept s f.header.plane f.header.key f.header.counter (sound_found f.header.id f.from s there) k is))))
 
 hear_sound : (e : EndMeaning) (m : List ℕ) → Kept e.pairs → Makes (accepted_of (hearing (viewed e) m)) SoundPair
 hear_sound e m h q e0 =
@@ -171,7 +171,7 @@ begin_sound e octets raw n x p e0 =
     step (settings_asked e.role e.size raw) _ p (SoundPair p) e1 (λ settings is e2.
     step (key_asked n) _ p (SoundPair p) e2 (λ k _ e3.
     last SoundPair (id, session.newSession settings k x) p e3
-    ((sessions.rules-are-kept).new settings k x (settings_leap e.role e.size raw settings is)))))
+    ((sessions.rules_are_kept).new settings k x (settings_leap e.role e.size raw settings is)))))
 
 added_kept : (l after : Pairs) (room : ℕ) (p : SessionId × Session) (r : Result (Unit {0}) Fault) → r ≡ add_answer l room p.0 → Added l after p.0 p.1 r → Kept l → Sound p.1 → Kept after
 added_kept l after room p (Err e) is a h s = subst Kept (sym a) h

@@ -8,6 +8,6 @@ loop-id-smaller g c = first_taken (g.S.SessionStore.pairs c.loop-id.emptied) (g.
 pub returns : goal.returns
 returns g c = record {
   parts = (refl, refl);
-  empty = no_first (g.S.SessionStore.pairs c.loop-id.emptied) (sym c.name.ensures ∙ c.in-default.is);
+  empty = no_first (g.S.SessionStore.pairs c.loop-id.emptied) (sym c.name.ensures ∙ c.in_default.is);
   room = c.loop-id.invariant;
 }

@@ -7,4 +7,4 @@ pub returns-clause-writes : goal.returns-clause-writes
 returns-clause-writes g c plain ok =
     has_written_of_eq g.W.Write.write_str_gives _ _ _ _
     (pair_text c.hex_digit-high.result c.hex_digit-low.result c.args.self.now.octet (omega arith) c.hex_digit-high.ensures c.hex_digit-low.ensures)
-    (c.write.ensures.shows plain ok)
+    (c.write.ensures.writes plain ok)
