@@ -1,3 +1,2 @@
 pub mod Suites
-pub mod Meanings
 pub mod Sizes

@@ -1,4 +1,4 @@
--- What AES gives is sixteen octets. Assumes nothing.
+-- What AES gives is sixteen octets, and what the suites give has its sizes: the laws of the two suites. Assumes nothing.
 use Rattle.std.specs.Prelude.{◌≡◌, ℕ, zero, suc, ◌+◌, ◌*◌, ◌/◌, ◌%◌, ◌<◌, ◌≤◌, List, [], ◌∷◌, ◌++◌, map, reverse, length, take, drop, ◌==◌, slice_index, slice_index_or, refl}
 use Rattle.std.proofs.Common.{sym, ap, subst, ◌∙◌, arith, length-append, length-drop, length-take-le}
 use Rattle.std.proofs.lemmas.Nat.{xor_lt}
@@ -14,6 +14,11 @@ use Rattle.octets.proofs.Numbers.{length-octets, under_append, under_octets}
 use Rattle.aes.specs.Field.{affine, affine_bit, inverse, sbox}
 use Rattle.aes.specs.Cipher.{xors, column, shifted, sub_bytes, shift_rows, add_round_key, round_key, rounds, cipher, rot_word, sub_word, rcon, added, key_word, key_expansion, aes}
 use Rattle.aes.specs.Words.{key_octets}
+use Rattle.suite.specs.declared.Keyset.{Keyset}
+use Rattle.suite.specs.declared.Inputs.{Inputs}
+use Rattle.modes.specs.Cmac.{cmac_of, blocks_before, chained, last_block}
+use Rattle.modes.specs.Counter.{counter_block, counter_stream}
+use Rattle.aes_suite.specs.Suites.{tag_size, start_of, eea2, eia2}
 use Rattle.aes.proofs.Products.{xtime_lt}
 
 -- n octets
@@ -123,3 +128,18 @@ aes-octets first second block =
     let words = key_expansion key in
     let state = rounds words (add_round_key block (round_key words 0)) 9 in
     xors-octets 16 (shift_rows (map sbox state)) (round_key words 10) (shifted-octets (map sbox state) (under_map sbox sbox_octet state)) (round_key_octets key 10 k (omega arith))
+
+-- what the suites give is octets, and a tag has its size
+pub eea2_octet : (k : Keyset) (i : Inputs) (place : ℕ) → eea2 k i place < 256
+unfolding eea2 counter_stream
+eea2_octet k i place =
+    let block = counter_block (start_of i) (place / 16) in
+    get_or_under (aes (key_octets k.encryption0 k.encryption1) block) (place % 16) (aes-octets k.encryption0 k.encryption1 block).under
+
+pub eia2_size : (k : Keyset) (i : Inputs) (m : List ℕ) → length (eia2 k i m) ≡ tag_size
+unfolding eia2 cmac_of
+eia2_size k i m =
+    let text = octets 8 (start_of i) ++ m in
+    let ciph = aes (key_octets k.integrity0 k.integrity1) in
+    let block = xors (chained ciph text (blocks_before (length text))) (last_block ciph (drop (16 * blocks_before (length text)) text)) in
+    length-take-le tag_size (ciph block) (let l = (aes-octets k.integrity0 k.integrity1 block).long in omega arith)

@@ -4,7 +4,7 @@
 ghost use Rattle.std.specs.Prelude.{◌≡◌};
 ghost use Rattle.suite.specs.Ciphers.{padded};
 ghost use Rattle.aes_suite.specs.Suites.{tag_size, start_of, eea2, eia2, eea0};
-ghost use Rattle.aes_suite.specs.Meanings.{eea2_octet, eia2_size};
+ghost use Rattle.aes_suite.specs.Sizes.{eea2_octet, eia2_size};
 ghost use Rattle.std.proofs.Common.{rules};
 
 use aes::Schedule;

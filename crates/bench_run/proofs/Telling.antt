@@ -36,5 +36,5 @@ module _ (v : EndView) (plane : Plane) (id content : List ℕ) (r : Result ℕ F
       ∙ ap (λ (x : List ℕ). written (Ok n) x) so
       ∙ ap (λ (x : Result ℕ Fault). written x (seal_buffer v plane id content empty_buffer)) (sym is ∙ answered)
 
-  pub not-sealed : (e : Fault) → r ≡ Err e → refused e ≡ seal_outcome v plane id content
-  not-sealed e is = ap (λ (x : Result ℕ Fault). written x (seal_buffer v plane id content empty_buffer)) (sym is ∙ answered)
+  pub not_sealed : (e : Fault) → r ≡ Err e → refused e ≡ seal_outcome v plane id content
+  not_sealed e is = ap (λ (x : Result ℕ Fault). written x (seal_buffer v plane id content empty_buffer)) (sym is ∙ answered)

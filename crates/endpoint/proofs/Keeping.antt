@@ -71,11 +71,11 @@ abbrev SoundChange : SessionId × Change Session → Type 0
 SoundChange p = Leaves Sound p.1
 
 put_kept : (l : Pairs) (r : Result (SessionId × Session) Fault) → Kept l → Makes r SoundPair → Kept (put_back r l)
-put_kept l (Ok p) h s = (stores.rules-are-kept).put l p.0 p.1 h (s p refl)
+put_kept l (Ok p) h s = (stores.rules_are_kept).put l p.0 p.1 h (s p refl)
 put_kept l (Err e) h s = h
 
 change_kept : (l : Pairs) (id : SessionId) (c : Change Session) → Kept l → Leaves Sound c → Kept (changed_pairs l id c)
-change_kept l id (Done s) h k = (stores.rules-are-kept).put l id s h k
+change_kept l id (Done s) h k = (stores.rules_are_kept).put l id s h k
 change_kept l id Ignored h k = h
 
 effect_kept : (l : Pairs) (r : Result (SessionId × Change Session) Fault) → Kept l → Makes r SoundChange → Kept (effect_pairs r l)
@@ -88,7 +88,7 @@ module _ (e : EndMeaning) (h : Kept e.pairs) where
 
   -- a session that is found keeps its rules
   sound_found : (id : SessionId) (place : ℕ) (s : Session) → found (lookup e.pairs) id place ≡ Ok s → Sound s
-  sound_found id place s q = (stores.rules-are-kept).look e.pairs id s h (found_is e.pairs id place s q)
+  sound_found id place s q = (stores.rules_are_kept).look e.pairs id s h (found_is e.pairs id place s q)
 
   give_sound : (octets : List ℕ) (n : ℕ) (x : Keyset) → Makes (giving v octets n x) SoundPair
   give_sound octets n x p e0 =
@@ -170,14 +170,14 @@ begin_sound e octets raw n x p e0 =
     step (id_asked octets) _ p (SoundPair p) e0 (λ id _ e1.
     step (settings_asked e.role e.size raw) _ p (SoundPair p) e1 (λ settings is e2.
     step (key_asked n) _ p (SoundPair p) e2 (λ k _ e3.
-    last SoundPair (id, session.newSession settings k x) p e3
+    last SoundPair (id, session.new_session settings k x) p e3
     ((sessions.rules_are_kept).new settings k x (settings_leap e.role e.size raw settings is)))))
 
 added_kept : (l after : Pairs) (room : ℕ) (p : SessionId × Session) (r : Result (Unit {0}) Fault) → r ≡ add_answer l room p.0 → Added l after p.0 p.1 r → Kept l → Sound p.1 → Kept after
 added_kept l after room p (Err e) is a h s = subst Kept (sym a) h
 added_kept l after room p (Ok u) is a h s =
     let free : has l p.0 ≡ false = not-true (has l p.0) (need_held (not (has l p.0)) _ _ u (sym is)).0 in
-    subst Kept (sym a.2) ((stores.rules-are-kept).add l a.0 p.0 p.1 h free s)
+    subst Kept (sym a.2) ((stores.rules_are_kept).add l a.0 p.0 p.1 h free s)
 
 begun_kept : (e : EndMeaning) (after : Pairs) (r : Result (SessionId × Session) Fault) → Begun e.pairs after r (and_then r (λ p. add_answer e.pairs e.room p.0)) → Kept e.pairs → Makes r SoundPair → Kept after
 begun_kept e after (Ok p) b h s = added_kept e.pairs after e.room p _ refl b h (s p refl)
@@ -196,5 +196,5 @@ rules_are_kept = record {
 }
   where
     end_kept : (e : EndMeaning) (r : Result SessionId Fault) → Kept e.pairs → Kept (removed e.pairs r)
-    end_kept e (Ok i) h = (stores.rules-are-kept).take e.pairs i h
+    end_kept e (Ok i) h = (stores.rules_are_kept).take e.pairs i h
     end_kept e (Err x) h = h

@@ -1,5 +1,5 @@
 use Rattle.aes.specs.Words.{words_of}
-use Rattle.aes_suite.specs.Meanings.{tag_is}
+use Rattle.aes_suite.proofs.Meanings.{tag_is}
 use Rattle.aes_suite.proofs.tag_of.Goals as goal
 
 pub returns : goal.returns

@@ -1,5 +1,5 @@
 use Rattle.aes.specs.Words.{words_of}
-use Rattle.aes_suite.specs.Meanings.{cipher_is}
+use Rattle.aes_suite.proofs.Meanings.{cipher_is}
 use Rattle.aes_suite.proofs.AesSuite.encipher.Goals as goal
 
 pub returns : goal.returns

@@ -1,4 +1,4 @@
-use Rattle.aes_suite.specs.Meanings.{clear_same}
+use Rattle.aes_suite.proofs.Meanings.{clear_same}
 use Rattle.aes_suite.proofs.ClearSuite.encipher.Goals as goal
 
 pub returns : goal.returns

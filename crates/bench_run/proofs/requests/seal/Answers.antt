@@ -1,7 +1,7 @@
 use Rattle.std.proofs.Common.{is_ok, string_bytes, ◌∙◌}
 use Rattle.endpoint.specs.Ends.{meaning, viewed}
 use Rattle.bench_run.proofs.Going.{seal_goes}
-use Rattle.bench_run.proofs.Telling.{same_line, sealed_is, not-sealed, empty_length}
+use Rattle.bench_run.proofs.Telling.{same_line, sealed_is, not_sealed, empty_length}
 use Rattle.bench_run.proofs.requests.seal.Goals as goal
 
 pub returns-in-Ok : goal.returns-in-Ok

@@ -1,4 +1,4 @@
--- The two functions of the suites give octets. Assumes nothing.
+-- The two functions of the suites, as the code reckons them. Assumes nothing.
 use Rattle.std.specs.Prelude.{◌≡◌, ℕ, ◌+◌, ◌-◌, ◌*◌, ◌/◌, ◌%◌, ◌^◌, ◌<◌, List, [], ◌∷◌, ◌++◌, length, take, drop, replicate, refl}
 use Rattle.std.proofs.Common.{sym, ap, ◌∙◌, arith, length-take-le}
 use Rattle.std.specs.Int.Bits.{xor_zero_r}
@@ -12,21 +12,7 @@ use Rattle.aes.specs.Words.{block_octets, key_octets}
 use Rattle.modes.specs.Cmac.{cmac_of, blocks_before, chained, last_block}
 use Rattle.modes.specs.Counter.{counter_block, counter_stream}
 use Rattle.aes_suite.specs.Suites.{tag_size, start_of, eea2, eia2, eea0}
-use Rattle.aes_suite.specs.Sizes.{aes-octets, get_or_under}
-
-pub eea2_octet : (k : Keyset) (i : Inputs) (place : ℕ) → eea2 k i place < 256
-unfolding eea2 counter_stream
-eea2_octet k i place =
-    let block = counter_block (start_of i) (place / 16) in
-    get_or_under (aes (key_octets k.encryption0 k.encryption1) block) (place % 16) (aes-octets k.encryption0 k.encryption1 block).under
-
-pub eia2_size : (k : Keyset) (i : Inputs) (m : List ℕ) → length (eia2 k i m) ≡ tag_size
-unfolding eia2 cmac_of
-eia2_size k i m =
-    let text = octets 8 (start_of i) ++ m in
-    let ciph = aes (key_octets k.integrity0 k.integrity1) in
-    let block = xors (chained ciph text (blocks_before (length text))) (last_block ciph (drop (16 * blocks_before (length text)) text)) in
-    length-take-le tag_size (ciph block) (let l = (aes-octets k.integrity0 k.integrity1 block).long in omega arith)
+use Rattle.aes_suite.specs.Sizes.{eia2_size}
 
 -- nothing is enciphered
 pub clear_same : (k : Keyset) (i : Inputs) (j : ℕ) (xs : List ℕ) → xs ≡ enciphered (eea0 k i) j xs
