@@ -1,16 +1,16 @@
 -- The two functions of the suites, as the code reckons them. Assumes nothing.
-use Rattle.std.specs.Prelude.{◌≡◌, ℕ, ◌+◌, ◌-◌, ◌*◌, ◌/◌, ◌%◌, ◌^◌, ◌<◌, List, [], ◌∷◌, ◌++◌, length, take, drop, replicate, refl}
-use Rattle.std.proofs.Common.{sym, ap, ◌∙◌, arith, length-take-le}
+use Rattle.std.specs.Prelude.{◌≡◌, ℕ, ◌+◌, ◌-◌, ◌/◌, ◌%◌, ◌^◌, List, [], ◌∷◌, ◌++◌, length, take, replicate, refl}
+use Rattle.std.proofs.Common.{sym, ap, ◌∙◌, arith}
 use Rattle.std.specs.Int.Bits.{xor_zero_r}
 use Rattle.octets.specs.Octets.{octets}
 use Rattle.suite.specs.declared.Keyset.{Keyset}
 use Rattle.suite.specs.declared.Inputs.{Inputs}
 use Rattle.suite.specs.Ciphers.{enciphered, padded, longest_tag}
 use Rattle.aes.specs.declared.Block.{Block}
-use Rattle.aes.specs.Cipher.{aes, cipher, key_expansion, xors}
+use Rattle.aes.specs.Cipher.{aes, cipher, key_expansion}
 use Rattle.aes.specs.Words.{block_octets, key_octets}
-use Rattle.modes.specs.Cmac.{cmac_of, blocks_before, chained, last_block}
-use Rattle.modes.specs.Counter.{counter_block, counter_stream}
+use Rattle.modes.specs.Cmac.{cmac_of}
+use Rattle.modes.specs.Counter.{counter_stream}
 use Rattle.aes_suite.specs.Suites.{tag_size, start_of, eea2, eia2, eea0}
 use Rattle.aes_suite.specs.Sizes.{eia2_size}
 

@@ -1,5 +1,5 @@
 -- The line that tells an outcome. Assumes nothing.
-use Rattle.std.proofs.Common.{◌≡◌, ℕ, ◌-◌, Bool, cond, List, ◌++◌, length, take, replicate, Ok, Err, Result, sym, ap, ◌∙◌, arith}
+use Rattle.std.proofs.Common.{◌≡◌, ℕ, ◌-◌, Bool, cond, List, ◌++◌, length, take, Ok, Err, Result, sym, ap, ◌∙◌, arith}
 use Rattle.std.proofs.lemmas.Simd.{length-replicate}
 use Rattle.refusal.specs.declared.Fault.{Fault}
 use Rattle.wire.specs.declared.parties.Plane.{Plane}

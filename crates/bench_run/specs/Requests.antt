@@ -1,5 +1,5 @@
 -- What a request does at an end: the outcome, and what is found there afterwards. Assumes nothing.
-use Rattle.std.specs.Prelude.{◌≡◌, ℕ, ◌+◌, ◌*◌, List, length, take, replicate, Ok, Err, Result}
+use Rattle.std.specs.Prelude.{◌≡◌, ℕ, ◌+◌, ◌*◌, List, take, replicate, Ok, Err, Result}
 use Rattle.std.specs.List.{between}
 use Rattle.refusal.specs.declared.Fault.{Fault}
 use Rattle.suite.specs.declared.Keyset.{Keyset}

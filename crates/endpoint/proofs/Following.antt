@@ -4,7 +4,7 @@ use mathlib.Core.Path.{fun_ext}
 use Rattle.std.proofs.lemmas.Bool.{cond_both, both_ways, not-true}
 use Rattle.std.specs.List.{insert}
 use Rattle.refusal.specs.declared.Fault.{Fault}
-use Rattle.refusal.specs.Tests.{need, and_then}
+use Rattle.refusal.specs.Tests.{and_then}
 use Rattle.refusal.proofs.Rows.{need_held}
 use Rattle.wire.specs.declared.id.SessionId.{SessionId}
 use Rattle.wire.specs.Ids.{same_id}

@@ -9,7 +9,6 @@ use Rattle.wire.specs.Fronts.{counter_octets}
 use Rattle.framing.specs.declared.format.Protection.{Protection}
 use Rattle.framing.specs.Layouts.{planned, Laid}
 use Rattle.message.specs.Messages.{message}
-use Rattle.message.specs.Seals.{over}
 use Rattle.keys.specs.Ids.{key_number}
 use Rattle.session.specs.declared.session.Session.{Session}
 use Rattle.session.specs.declared.session.Outgoing.{Outgoing}

@@ -1,5 +1,5 @@
 -- CMAC over a cipher of 16-octet blocks. Assumes nothing.
-use Rattle.std.specs.Prelude.{ℕ, zero, suc, ◌+◌, ◌-◌, ◌*◌, ◌/◌, ◌^◌, cond, List, ◌∷◌, ◌++◌, length, take, drop, replicate, ◌==◌, bit_xor, nat_lt}
+use Rattle.std.specs.Prelude.{ℕ, zero, suc, ◌-◌, ◌*◌, ◌/◌, ◌^◌, cond, List, ◌∷◌, ◌++◌, length, take, drop, replicate, ◌==◌, bit_xor, nat_lt}
 use Rattle.std.specs.Int.Digits.{number_from_digits}
 use Rattle.octets.specs.Octets.{octets}
 use Rattle.aes.specs.Cipher.{xors}

@@ -1,8 +1,8 @@
 -- Every change of a session keeps the rules. Assumes nothing.
-use Rattle.std.proofs.Common.{◌≡◌, ℕ, ◌+◌, ◌-◌, ◌<◌, ◌≤◌, true, ltb, IfOk, Ok, Err, Result, refl, ap, ◌∙◌, subst, arith}
+use Rattle.std.proofs.Common.{◌≡◌, ℕ, ◌+◌, ◌<◌, ◌≤◌, true, ltb, IfOk, Ok, Err, Result, refl, ap, ◌∙◌, subst, arith}
 use Rattle.std.proofs.lemmas.Bool.{ltb-true}
 use Rattle.refusal.specs.declared.Fault.{Fault}
-use Rattle.refusal.specs.Tests.{need, and_then}
+use Rattle.refusal.specs.Tests.{and_then}
 use Rattle.refusal.proofs.Rows.{need_held, and_then_went}
 use Rattle.suite.specs.declared.Keyset.{Keyset}
 use Rattle.wire.specs.declared.parties.Plane.{Plane}
@@ -20,7 +20,7 @@ use Rattle.session.specs.declared.counters.Counters.{Counters}
 use Rattle.session.specs.declared.session.Settings.{Settings}
 use Rattle.session.specs.declared.session.Session.{Session}
 use Rattle.session.specs.Counting.{last_counter, admitted, counted, sealed_up_to}
-use Rattle.session.specs.Sessions.{new_session, counters_of, with_counters, with_keys, changed, swapped, admission, accepted, sealed}
+use Rattle.session.specs.Sessions.{new_session, counters_of, with_counters, with_keys, changed, admission, accepted}
 use Rattle.session.specs.Rules.{Sound, RulesAreKept}
 
 -- ---- keys changed

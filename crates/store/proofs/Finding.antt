@@ -5,7 +5,7 @@ use Rattle.std.specs.List.{insert}
 use Rattle.wire.specs.declared.id.SessionId.{SessionId}
 use Rattle.wire.specs.Ids.{same_id}
 use Rattle.session.specs.declared.session.Session.{Session}
-use Rattle.store.specs.Stores.{Pair, Pairs, lookup, has, apart, replaced, without}
+use Rattle.store.specs.Stores.{Pairs, lookup, has, apart, replaced, without}
 use Rattle.store.specs.StoreLaws.{FoundAfter}
 
 pub same_id_lem : (x y : SessionId) → same_id x y ≡ true → x ≡ y

@@ -1,12 +1,12 @@
 -- Stores keep the rules. Assumes nothing.
-use Rattle.std.proofs.Common.{◌≡◌, ℕ, zero, suc, Bool, true, false, cond, not, ◌&&◌, [], ◌∷◌, is_some, Some, None, Option, sym, refl, ap, ◌∙◌, subst, rules}
+use Rattle.std.proofs.Common.{◌≡◌, ℕ, zero, suc, Bool, true, false, not, ◌&&◌, [], ◌∷◌, is_some, Some, None, Option, sym, refl, ap, ◌∙◌, subst, rules}
 use Rattle.std.proofs.lemmas.Bool.{cond_both, cond-false, both_ways, and_parts, and_from, not_from_false}
 use Rattle.std.specs.List.{insert}
 use Rattle.wire.specs.declared.id.SessionId.{SessionId}
 use Rattle.wire.specs.Ids.{same_id}
 use Rattle.session.specs.declared.session.Session.{Session}
 use Rattle.session.specs.Rules.{Sound}
-use Rattle.store.specs.Stores.{Pair, Pairs, lookup, has, apart, replaced, without}
+use Rattle.store.specs.Stores.{Pairs, lookup, has, apart, replaced, without}
 use Rattle.store.specs.StoreLaws.{AllSound, RulesAreKept}
 use Rattle.store.proofs.Finding.{found_after, same_id_lem, apart_parts, absent_parts}
 

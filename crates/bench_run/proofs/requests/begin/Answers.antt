@@ -1,6 +1,5 @@
-use Rattle.std.proofs.Common.{ap, ◌∙◌}
+use Rattle.std.proofs.Common.{◌∙◌}
 use Rattle.endpoint.specs.Ends.{meaning}
-use Rattle.bench_run.specs.Requests.{plain}
 use Rattle.bench_run.proofs.Going.{begin_outcome, begin_goes}
 use Rattle.bench_run.proofs.requests.begin.Goals as goal
 

@@ -1,6 +1,5 @@
-use Rattle.std.proofs.Common.{ap, ◌∙◌}
+use Rattle.std.proofs.Common.{◌∙◌}
 use Rattle.endpoint.specs.Ends.{meaning}
-use Rattle.bench_run.specs.Requests.{plain}
 use Rattle.bench_run.proofs.Going.{give_outcome, give_goes}
 use Rattle.bench_run.proofs.requests.give.Goals as goal
 
