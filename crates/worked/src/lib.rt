@@ -12,9 +12,9 @@ mod refusals;
 #[cfg(test)]
 mod round_trips;
 #[cfg(test)]
-mod sessions;
-#[cfg(test)]
 mod session_stores;
+#[cfg(test)]
+mod sessions;
 #[cfg(test)]
 mod suites;
 #[cfg(test)]
