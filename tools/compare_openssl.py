@@ -1,7 +1,7 @@
 #!/usr/bin/env python3
 """Compares tag and keystream of the AES suite with OpenSSL's on random keys, counts and messages of 0 to 2,048 octets.
 
-Outside the gate: run `rt check suite_runs` first, then this. An argument sets how many messages (3,000 without one).
+Outside the gate: run `tools/build.sh suite_runs` first, then this. An argument sets how many messages (3,000 without one).
 """
 import os
 import subprocess
@@ -23,7 +23,7 @@ def octets(text):
 def main():
     os.chdir(os.path.join(os.path.dirname(os.path.abspath(__file__)), ".."))
     times = sys.argv[1] if len(sys.argv) > 1 else "3000"
-    lines = subprocess.run(["target/bin/suite_runs", "trace", times], capture_output=True, check=True, text=True).stdout.splitlines()
+    lines = subprocess.run(["crates/suite_runs/out/suite_runs", "trace", times], capture_output=True, check=True, text=True).stdout.splitlines()
     different = 0
     for line in lines:
         integrity, encryption, count, bearer, direction, tag, plain, hidden = line.split()

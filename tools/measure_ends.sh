@@ -5,10 +5,10 @@ set -eu
 cd "$(dirname "$0")/.."
 work=$(mktemp -d)
 trap 'rm -rf "$work"' EXIT
-rt check end_runs bench > "$work/log" 2>&1 || { cat "$work/log"; exit 1; }
+tools/build.sh end_runs bench
 count() {
-    few=$(valgrind --tool=callgrind --callgrind-out-file=/dev/null target/bin/end_runs "$1" 100 2>&1 | sed -n 's/.*Collected : //p')
-    many=$(valgrind --tool=callgrind --callgrind-out-file=/dev/null target/bin/end_runs "$1" 1100 2>&1 | sed -n 's/.*Collected : //p')
+    few=$(valgrind --tool=callgrind --callgrind-out-file=/dev/null crates/end_runs/out/end_runs "$1" 100 2>&1 | sed -n 's/.*Collected : //p')
+    many=$(valgrind --tool=callgrind --callgrind-out-file=/dev/null crates/end_runs/out/end_runs "$1" 1100 2>&1 | sed -n 's/.*Collected : //p')
     echo $(((many - few) / 1000))
 }
 seal=$(count seal)
@@ -29,6 +29,6 @@ while len(lines) < 100000:
 print("\n".join(lines))
 PYTHON
 start=$(date +%s%N)
-target/bin/bench < "$work/script" > "$work/transcript"
+crates/bench/out/bench < "$work/script" > "$work/transcript"
 end=$(date +%s%N)
 echo "bench: 100,000 lines in $(((end - start) / 1000000)) ms"

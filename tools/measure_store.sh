@@ -5,13 +5,13 @@ set -eu
 cd "$(dirname "$0")/.."
 work=$(mktemp -d)
 trap 'rm -rf "$work"' EXIT
-rt check store_runs > "$work/log" 2>&1 || { cat "$work/log"; exit 1; }
+tools/build.sh store_runs
 ulimit -s 65536
 count() {
     valgrind --main-stacksize=67108864 --tool=callgrind --callgrind-out-file=/dev/null "$@" 2>&1 | sed -n 's/.*Collected : //p'
 }
 for sessions in 1 32 1024; do
-    few=$(count target/bin/store_runs "$sessions" 100)
-    many=$(count target/bin/store_runs "$sessions" 1100)
+    few=$(count crates/store_runs/out/store_runs "$sessions" 100)
+    many=$(count crates/store_runs/out/store_runs "$sessions" 1100)
     echo "$sessions sessions: $(((many - few) / 1000)) instructions a look"
 done

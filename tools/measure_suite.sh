@@ -6,8 +6,8 @@ set -eu
 cd "$(dirname "$0")/.."
 work=$(mktemp -d)
 trap 'rm -rf "$work"' EXIT
-rt check suite_runs > "$work/log" 2>&1 || { cat "$work/log"; exit 1; }
-cp target/bin/suite_runs "$work/newtcobalt"
+tools/build.sh suite_runs
+cp crates/suite_runs/out/suite_runs "$work/newtcobalt"
 cc -O2 -DTOMCRYPT tools/suite_cost.c -o "$work/libtomcrypt" -ltomcrypt
 cc -O2 -DMBEDTLS tools/suite_cost.c -o "$work/mbedtls" -lmbedcrypto
 cc -O2 -DOPENSSL tools/suite_cost.c -o "$work/openssl" -lcrypto
