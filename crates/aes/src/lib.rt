@@ -1,9 +1,9 @@
 // AES-128, one block at a time: enciphering alone.
 #![tactic(auto)]
 
-ghost use Rattle.std.specs.Prelude.{◌≡◌, ◌<◌, ◌≤◌, [], ◌∷◌, map, slice_index};
+ghost use Rattle.std.specs.Prelude.{◌≡◌, [], ◌∷◌, ◌++◌, map};
 ghost use Rattle.aes.specs.Field.{sbox};
-ghost use Rattle.aes.specs.Cipher.{sub_bytes, shift_rows, mix_column, mix_columns, xors, round_key, cipher, rot_word, sub_word, key_expansion};
+ghost use Rattle.aes.specs.Cipher.{sub_bytes, shift_rows, mix_column, mix_columns, xors, cipher, rot_word, sub_word, key_expansion};
 ghost use Rattle.aes.specs.Words.{block_octets, diagonal, key_octets, words_of};
 ghost use Rattle.octets.specs.Octets.{octets};
 
@@ -12,11 +12,11 @@ mod tables;
 
 use crate::tables::{round_constant, row_addends, substitute};
 
-// The words of an expanded key.
-const WORDS: usize = 44;
+// The keys of the rounds, and the one before them.
+const KEYS: usize = 11;
 
 // The four columns of a block, each with its first octet in the most significant place.
-#[derive(Clone, Copy)]
+#[derive(Clone, Copy, PartialEq, Eq, Debug)]
 pub struct Block {
     pub a: u32,
     pub b: u32,
@@ -24,72 +24,91 @@ pub struct Block {
     pub d: u32,
 }
 
-// An expanded key.
+// An expanded key: the keys of the rounds, one after the other.
 #[derive(Clone, Copy)]
 pub struct Schedule {
-    words: [u32; WORDS],
+    keys: [Block; KEYS],
 }
 
-// The octet of a word at a place.
-fn octet(word: u32, place: usize) -> u8
-    requires { place < 4 }
-    ensures { result ≡ slice_index (octets 4 word) place }
+// Row 0 of the first word, row 1 of the second, and so on.
+fn diagonal(a: u32, b: u32, c: u32, d: u32) -> [u8; 4]
+    ensures { result ≡ diagonal a b c d }
 {
-    ((word >> (8 * (3 - place))) % 256) as u8
+    [
+        a.to_be_bytes()[0],
+        b.to_be_bytes()[1],
+        c.to_be_bytes()[2],
+        d.to_be_bytes()[3],
+    ]
 }
 
-// The word of four octets.
-fn word(x: u8, y: u8, z: u8, w: u8) -> u32
-    ensures { octets 4 result ≡ x ∷ y ∷ z ∷ w ∷ [] }
+// SubBytes of a column, or SubWord.
+fn substituted(column: [u8; 4]) -> u32
+    ensures { octets 4 result ≡ map sbox column }
 {
-    ((u32::from(x) * 256 + u32::from(y)) * 256 + u32::from(z)) * 256 + u32::from(w)
-}
-
-// A column after SubBytes and ShiftRows, from the columns that its rows come from.
-fn shifted_column(a: u32, b: u32, c: u32, d: u32) -> u32
-    ensures { octets 4 result ≡ map sbox (diagonal a b c d) }
-{
-    word(
-        substitute(octet(a, 0)),
-        substitute(octet(b, 1)),
-        substitute(octet(c, 2)),
-        substitute(octet(d, 3)),
-    )
+    let [x, y, z, w] = column;
+    u32::from_be_bytes([substitute(x), substitute(y), substitute(z), substitute(w)])
 }
 
 // The same after MixColumns too.
-fn mixed_column(a: u32, b: u32, c: u32, d: u32) -> u32
-    ensures { octets 4 result ≡ mix_column (map sbox (diagonal a b c d)) }
+fn mixed_column(column: [u8; 4]) -> u32
+    ensures { octets 4 result ≡ mix_column (map sbox column) }
 {
-    row_addends(0, octet(a, 0))
-        ^ row_addends(1, octet(b, 1))
-        ^ row_addends(2, octet(c, 2))
-        ^ row_addends(3, octet(d, 3))
+    let [x, y, z, w] = column;
+    row_addends(0, x) ^ row_addends(1, y) ^ row_addends(2, z) ^ row_addends(3, w)
+}
+
+// SubWord after RotWord.
+#[tactic(auto, unfolding(crate::specs::Cipher::rot_word, crate::specs::Cipher::sub_word))]
+fn rotated(word: u32) -> u32
+    ensures { octets 4 result ≡ sub_word (rot_word (octets 4 word)) }
+{
+    let [x, y, z, w] = word.to_be_bytes();
+    substituted([y, z, w, x])
 }
 
 impl Block {
+    // The block of eight octets of one number and eight of another.
+    #[tactic(auto, unfolding(crate::specs::Words::block_octets))]
+    pub fn of_halves(high: u64, low: u64) -> Block
+        ensures { block_octets result ≡ octets 8 high ++ octets 8 low }
+    {
+        Block {
+            a: (high >> 32) as u32,
+            b: (high % (1 << 32)) as u32,
+            c: (low >> 32) as u32,
+            d: (low % (1 << 32)) as u32,
+        }
+    }
+
+    // The block whose columns `column` makes of the columns after ShiftRows.
+    fn columns<F: Fn([u8; 4]) -> u32>(self, column: F) -> Block
+        requires { F.IsAlwaysCallable column }
+        ensures a { F.post column (diagonal self.a self.b self.c self.d) result.a }
+        ensures b { F.post column (diagonal self.b self.c self.d self.a) result.b }
+        ensures c { F.post column (diagonal self.c self.d self.a self.b) result.c }
+        ensures d { F.post column (diagonal self.d self.a self.b self.c) result.d }
+    {
+        Block {
+            a: column(diagonal(self.a, self.b, self.c, self.d)),
+            b: column(diagonal(self.b, self.c, self.d, self.a)),
+            c: column(diagonal(self.c, self.d, self.a, self.b)),
+            d: column(diagonal(self.d, self.a, self.b, self.c)),
+        }
+    }
+
     // SubBytes and ShiftRows.
     fn shifted(self) -> Block
         ensures { block_octets result ≡ shift_rows (sub_bytes (block_octets self)) }
     {
-        Block {
-            a: shifted_column(self.a, self.b, self.c, self.d),
-            b: shifted_column(self.b, self.c, self.d, self.a),
-            c: shifted_column(self.c, self.d, self.a, self.b),
-            d: shifted_column(self.d, self.a, self.b, self.c),
-        }
+        self.columns(substituted)
     }
 
     // SubBytes, ShiftRows and MixColumns.
     fn mixed(self) -> Block
         ensures { block_octets result ≡ mix_columns (shift_rows (sub_bytes (block_octets self))) }
     {
-        Block {
-            a: mixed_column(self.a, self.b, self.c, self.d),
-            b: mixed_column(self.b, self.c, self.d, self.a),
-            c: mixed_column(self.c, self.d, self.a, self.b),
-            d: mixed_column(self.d, self.a, self.b, self.c),
-        }
+        self.columns(mixed_column)
     }
 
     // Exclusive or of two blocks.
@@ -103,18 +122,20 @@ impl Block {
             d: self.d ^ other.d,
         }
     }
-}
 
-// SubWord after RotWord.
-fn rotated(w: u32) -> u32
-    ensures { octets 4 result ≡ sub_word (rot_word (octets 4 w)) }
-{
-    word(
-        substitute(octet(w, 1)),
-        substitute(octet(w, 2)),
-        substitute(octet(w, 3)),
-        substitute(octet(w, 0)),
-    )
+    // The key of the next round, whose constant is given.
+    fn next(self, constant: u8) -> Block
+        ensures a { octets 4 result.a ≡ xors (octets 4 self.a) (xors (sub_word (rot_word (octets 4 self.d))) (constant ∷ 0 ∷ 0 ∷ 0 ∷ [])) }
+        ensures b { octets 4 result.b ≡ xors (octets 4 self.b) (octets 4 result.a) }
+        ensures c { octets 4 result.c ≡ xors (octets 4 self.c) (octets 4 result.b) }
+        ensures d { octets 4 result.d ≡ xors (octets 4 self.d) (octets 4 result.c) }
+    {
+        let a = self.a ^ (rotated(self.d) ^ u32::from_be_bytes([constant, 0, 0, 0]));
+        let b = self.b ^ a;
+        let c = self.c ^ b;
+        let d = self.d ^ c;
+        Block { a, b, c, d }
+    }
 }
 
 impl Schedule {
@@ -122,41 +143,22 @@ impl Schedule {
     pub fn new(first: u64, second: u64) -> Schedule
         ensures { words_of result ≡ key_expansion (key_octets first second) }
     {
-        let mut schedule = Schedule { words: [0; WORDS] };
-        schedule.words[0] = (first >> 32) as u32;
-        schedule.words[1] = (first % (1 << 32)) as u32;
-        schedule.words[2] = (second >> 32) as u32;
-        schedule.words[3] = (second % (1 << 32)) as u32;
-        for r in 0..10 {
-            let mut sum = rotated(schedule.words[4 * r + 3]) ^ word(round_constant(r), 0, 0, 0);
-            for j in 0..4 {
-                sum = schedule.words[4 * r + j] ^ sum;
-                schedule.words[4 * r + j + 4] = sum;
-            }
+        let mut keys = [Block::of_halves(first, second); KEYS];
+        // By places, since each key is made from the one before it.
+        for r in 0..KEYS - 1 {
+            keys[r + 1] = keys[r].next(round_constant(r));
         }
-        schedule
-    }
-
-    fn round_key(&self, r: usize) -> Block
-        requires { r ≤ 10 }
-        ensures { block_octets result ≡ round_key (words_of self.now) r }
-    {
-        Block {
-            a: self.words[4 * r],
-            b: self.words[4 * r + 1],
-            c: self.words[4 * r + 2],
-            d: self.words[4 * r + 3],
-        }
+        Schedule { keys }
     }
 
     // Enciphers a block.
     pub fn encrypt(&self, block: Block) -> Block
         ensures { block_octets result ≡ cipher (words_of self.now) (block_octets block) }
     {
-        let mut state = block.plus(self.round_key(0));
-        for r in 0..9 {
-            state = state.mixed().plus(self.round_key(r + 1));
+        let mut state = block.plus(self.keys[0]);
+        for key in &self.keys[1..10] {
+            state = state.mixed().plus(*key);
         }
-        state.shifted().plus(self.round_key(10))
+        state.shifted().plus(self.keys[10])
     }
 }

@@ -1,8 +1,10 @@
 -- The two functions of the suites, as the code reckons them. Assumes nothing.
-use Rattle.std.specs.Prelude.{◌≡◌, ℕ, ◌+◌, ◌-◌, ◌/◌, ◌%◌, ◌^◌, List, [], ◌∷◌, ◌++◌, length, take, replicate, refl}
+use Rattle.std.specs.Prelude.{◌≡◌, ℕ, ◌+◌, ◌-◌, List, [], ◌∷◌, ◌++◌, length, take, replicate, refl}
 use Rattle.std.proofs.Common.{sym, ap, ◌∙◌, arith}
 use Rattle.std.specs.Int.Bits.{xor_zero_r}
+use Rattle.std.specs.Int.{bytes_high_first}
 use Rattle.octets.specs.Octets.{octets}
+use Rattle.octets.proofs.Numbers.{octets_std}
 use Rattle.suite.specs.declared.Keyset.{Keyset}
 use Rattle.suite.specs.declared.Inputs.{Inputs}
 use Rattle.suite.specs.Ciphers.{enciphered, padded, longest_tag}
@@ -19,29 +21,17 @@ pub clear_same : (k : Keyset) (i : Inputs) (j : ℕ) (xs : List ℕ) → xs ≡ 
 clear_same k i j [] = refl
 clear_same k i j (x ∷ xs) = let a = xor_zero_r x in let b = clear_same k i (j + 1) xs in cc
 
--- the octets of a number of 64 bits, one by one
-octets_of_64 : (s : ℕ)
-    → (s / 2 ^ 56 % 256 ∷ s / 2 ^ 48 % 256 ∷ s / 2 ^ 40 % 256 ∷ s / 2 ^ 32 % 256 ∷ s / 2 ^ 24 % 256 ∷ s / 2 ^ 16 % 256 ∷ s / 2 ^ 8 % 256 ∷ s % 256 ∷ []) ≡ octets 8 s
-octets_of_64 s =
-    let e2 : s / 256 / 256 ≡ s / 2 ^ 16 = omega arith in
-    let e3 : s / 256 / 256 / 256 ≡ s / 2 ^ 24 = omega arith in
-    let e4 : s / 256 / 256 / 256 / 256 ≡ s / 2 ^ 32 = omega arith in
-    let e5 : s / 256 / 256 / 256 / 256 / 256 ≡ s / 2 ^ 40 = omega arith in
-    let e6 : s / 256 / 256 / 256 / 256 / 256 / 256 ≡ s / 2 ^ 48 = omega arith in
-    let e7 : s / 256 / 256 / 256 / 256 / 256 / 256 / 256 ≡ s / 2 ^ 56 = omega arith in
-    cc
-
 first_word : (b : Block) → take tag_size (block_octets b) ≡ octets 4 b.a
 unfolding block_octets
 first_word b = refl
 
 pub tag_is : (k : Keyset) (i : Inputs) (m : List ℕ) (words : List (List ℕ)) (start : ℕ) (head part : List ℕ) (b : Block)
     → words ≡ key_expansion (key_octets k.integrity0 k.integrity1) → start ≡ start_of i
-    → head ≡ start / 2 ^ 56 % 256 ∷ start / 2 ^ 48 % 256 ∷ start / 2 ^ 40 % 256 ∷ start / 2 ^ 32 % 256 ∷ start / 2 ^ 24 % 256 ∷ start / 2 ^ 16 % 256 ∷ start / 2 ^ 8 % 256 ∷ start % 256 ∷ []
+    → head ≡ bytes_high_first 8 start
     → block_octets b ≡ cmac_of (cipher words) (head ++ m) → part ≡ octets 4 b.a → part ++ replicate 12 0 ≡ padded (eia2 k i m)
 unfolding eia2
 tag_is k i m words start head part b words_is start_is head_is tag_made part_is =
-    let h : head ≡ octets 8 (start_of i) = head_is ∙ octets_of_64 start ∙ ap (octets 8) start_is in
+    let h : head ≡ octets 8 (start_of i) = head_is ∙ octets_std 8 start ∙ ap (octets 8) start_is in
     let made : block_octets b ≡ cmac_of (aes (key_octets k.integrity0 k.integrity1)) (octets 8 (start_of i) ++ m) =
     tag_made ∙ ap (λ (w : List (List ℕ)). cmac_of (cipher w) (head ++ m)) words_is ∙ ap (λ (l : List ℕ). cmac_of (aes (key_octets k.integrity0 k.integrity1)) (l ++ m)) h in
     let p : part ≡ eia2 k i m = part_is ∙ sym (first_word b) ∙ ap (take tag_size) made in

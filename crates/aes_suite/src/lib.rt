@@ -26,9 +26,9 @@ pub struct Clear;
 fn start_of(inputs: Inputs) -> u64
     ensures { result ≡ start_of inputs }
 {
-    (inputs.count as u64) * 0x1_0000_0000
-        + ((inputs.bearer % 32) as u64) * 0x800_0000
-        + ((inputs.direction % 2) as u64) * 0x400_0000
+    (u64::from(inputs.count) << 32)
+        + (u64::from(inputs.bearer % 32) << 27)
+        + (u64::from(inputs.direction % 2) << 26)
 }
 
 // The tag, and zeros behind it.

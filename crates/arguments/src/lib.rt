@@ -8,8 +8,7 @@ ghost use Rattle.arguments.specs.Arguments.{id_asked, key_asked, settings_asked,
 use commands::command::Command;
 use framing::format::{DataLength, Format, TagLength};
 use keys::id::KeyId;
-use refusal::{Fault, Refusal};
-use session::counters::LAST_COUNTER;
+use refusal::{Fault, RangeError};
 use session::session::Settings;
 use wire::id::SessionId;
 use wire::parties::{Plane, Role};
@@ -24,41 +23,34 @@ pub struct RawSettings {
     pub leap: u64,
 }
 
+// The ID that raw octets are. No more than `try_from` and `?`, like `key_id`: kept, since the calls of an end are defined by what these
+// answer.
 pub fn session_id(octets: &[u8]) -> Result<SessionId, Fault>
     ensures { result ≡ id_asked octets.now }
 {
-    let Some(id) = SessionId::from_octets(octets) else {
-        return Err(Fault::new(Refusal::OutOfRange, 0));
-    };
-    Ok(id)
+    Ok(SessionId::try_from(octets)?)
 }
 
 pub fn key_id(number: u64) -> Result<KeyId, Fault>
     ensures { result ≡ key_asked number }
 {
-    let Some(id) = KeyId::from_number(number) else {
-        return Err(Fault::new(Refusal::OutOfRange, 0));
-    };
-    Ok(id)
+    Ok(KeyId::try_from(number)?)
 }
 
 // The settings of a session, with a suite whose tags have `most` octets.
 pub fn settings(role: Role, most: usize, raw: RawSettings) -> Result<Settings, Fault>
     ensures { result ≡ settings_asked role most raw }
 {
-    let Some(tag) = TagLength::from_number(raw.tag) else {
-        return Err(Fault::new(Refusal::OutOfRange, 0));
-    };
-    let Some(length) = DataLength::from_number(raw.length) else {
-        return Err(Fault::new(Refusal::OutOfRange, 0));
-    };
-    if tag.octets() > most || raw.leap < 1 || raw.leap > LAST_COUNTER as u64 {
-        return Err(Fault::new(Refusal::OutOfRange, 0));
+    let tag = TagLength::try_from(raw.tag)?;
+    let length = DataLength::try_from(raw.length)?;
+    let leap = u32::try_from(raw.leap).map_err(|_| RangeError)?;
+    if tag.octets() > most || leap < 1 {
+        return Err(RangeError.into());
     }
     Ok(Settings {
         role,
         format: Format { tag, length },
-        leap: raw.leap as u32,
+        leap,
     })
 }
 
@@ -69,9 +61,8 @@ pub fn content(plane: Plane, octets: &[u8]) -> Result<(), Fault>
     match plane {
         Plane::User => Ok(()),
         Plane::Control => {
-            if octets.len() == 0 || Command::from_number(octets[0]).is_none() {
-                return Err(Fault::new(Refusal::OutOfRange, 0));
-            }
+            let first = octets.first().ok_or(RangeError)?;
+            Command::try_from(*first)?;
             Ok(())
         }
     }

@@ -1,3 +1,3 @@
 pub mod Going
-pub mod Telling
+pub mod Buffers
 pub mod Playing

@@ -1,8 +1,9 @@
 -- What a request does at an end: the outcome, and what is found there afterwards. Assumes nothing.
-use Rattle.std.specs.Prelude.{◌≡◌, ℕ, ◌+◌, ◌*◌, List, take, replicate, Ok, Err, Result}
+use Rattle.std.specs.Prelude.{◌≡◌, ℕ, ◌+◌, List, take, replicate, Ok, Err, Result}
 use Rattle.std.specs.List.{between}
 use Rattle.refusal.specs.declared.Fault.{Fault}
 use Rattle.suite.specs.declared.Keyset.{Keyset}
+use Rattle.suite.specs.Keysets as keysets
 use Rattle.wire.specs.declared.parties.Plane.{Plane}
 use Rattle.wire.specs.declared.parties.Plane.TheVariants.{Control, User}
 use Rattle.wire.specs.Ids.{id_octets}
@@ -27,13 +28,9 @@ use Rattle.script.specs.Asked.{Asked, to_begin, to_give, to_choose, to_drop, to_
 use Rattle.transcript.specs.declared.answer.Counts.{Counts}
 use Rattle.transcript.specs.Outcomes.{Outcome, done, ignored, sealed, heard, counted, refused}
 
--- eight octets that are all the same
-abbrev pub eight : ℕ → ℕ
-eight octet = 0x0101010101010101 * octet
-
 -- a key is one octet, sixteen times
 abbrev pub keyset_of : KeyFields → Keyset
-keyset_of k = record { integrity0 = eight k.integrity; integrity1 = eight k.integrity; encryption0 = eight k.encryption; encryption1 = eight k.encryption }
+keyset_of k = keysets.keyset_of k.integrity k.encryption
 
 abbrev pub settings_of : BeginFields → RawSettings
 settings_of b = record { tag = b.tag; length = b.length; leap = b.leap }
@@ -117,6 +114,11 @@ pub record Goes (after : EndMeaning) (view : EndView) : Type 0 where
 
 abbrev pub GoesOn : EndMeaning → EndMeaning → Asked → Type 0
 GoesOn e after a = Kept e.pairs → Goes after (view_after (viewed e) a)
+
+-- an end answers a request and goes on as defined
+pub record Performed (e after : EndMeaning) (a : Asked) (o : Outcome) : Type 0 where
+  pub outcome : o ≡ outcome_on (viewed e) a
+  pub goes : GoesOn e after a
 
 abbrev pub SealGoesOn : EndMeaning → EndMeaning → Plane → List ℕ → List ℕ → Type 0
 SealGoesOn e after plane id content = Kept e.pairs → Goes after (seal_view (viewed e) plane id content)

@@ -16,7 +16,7 @@ fn key_octet(first: u64, second: u64, place: usize) -> u8
     ensures { result ≡ key_octet first second place }
 {
     let half = if place < 8 { first } else { second };
-    ((half >> (8 * (7 - place % 8))) % 256) as u8
+    half.to_be_bytes()[place % 8]
 }
 
 // A key's octet, the inputs and one number more, added up modulo 256.
@@ -41,12 +41,10 @@ fn keystream_octet(keys: Keyset, inputs: Inputs, place: usize) -> u8
 fn tag_without_octets(keys: Keyset, inputs: Inputs, len: usize) -> [u8; LONGEST_TAG]
     ensures { (j : ℕ) → j < 16 → slice_index result j ≡ summed (key_octet keys.integrity0 keys.integrity1 j) inputs len }
 {
-    let mut tag = [0u8; LONGEST_TAG];
-    for j in 0..LONGEST_TAG {
+    std::array::from_fn(|j| {
         let key = key_octet(keys.integrity0, keys.integrity1, j);
-        tag[j] = sum(key, inputs, len);
-    }
-    tag
+        sum(key, inputs, len)
+    })
 }
 
 impl Suite for Bench {
@@ -67,13 +65,14 @@ impl Suite for Bench {
     }
 
     fn encipher(&self, keys: Keyset, inputs: Inputs, part: &mut [u8]) {
-        for i in 0..part.len() {
-            part[i] ^= keystream_octet(keys, inputs, i);
+        for (i, x) in part.iter_mut().enumerate() {
+            *x ^= keystream_octet(keys, inputs, i);
         }
     }
 
     fn tag(&self, keys: Keyset, inputs: Inputs, message: &[u8]) -> [u8; LONGEST_TAG] {
         let mut tag = tag_without_octets(keys, inputs, message.len());
+        // By places, since every sixteenth octet adds to one of the tag.
         for (i, x) in message.iter().enumerate() {
             let j = i % 16;
             tag[j] = tag[j].wrapping_add(*x);

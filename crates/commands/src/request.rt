@@ -1,12 +1,15 @@
 // What a terminate or manage-keys request asks for.
 ghost use Rattle.std.specs.Prelude.{◌≡◌};
+ghost use Rattle.std.specs.Option.{ok_or};
+ghost use Rattle.refusal.specs.Refusals.{range_error};
 ghost use Rattle.commands.specs.Requests.{action_of, management_in, agreement_in, added, updated, asked_by, key_request, request_in};
 
 use crate::command::Command;
 use keys::id::KeyId;
+use refusal::RangeError;
 
 // What is to be done with a key, by the action bits of Key Management.
-#[derive(Clone, Copy)]
+#[derive(Clone, Copy, PartialEq, Eq, Debug)]
 pub enum KeyAction {
     Add = 1,
     Delete = 2,
@@ -21,7 +24,7 @@ struct Management {
 }
 
 // What a request asks the end that hears it to do.
-#[derive(Clone, Copy)]
+#[derive(Clone, Copy, PartialEq, Eq, Debug)]
 pub enum Request {
     Terminate,
     // Gives a key under this Key ID.
@@ -33,14 +36,19 @@ pub enum Request {
     Senseless,
 }
 
-fn action_of(bits: u8) -> Option<KeyAction>
-    ensures { result ≡ action_of bits }
-{
-    match bits {
-        1 => Some(KeyAction::Add),
-        2 => Some(KeyAction::Delete),
-        3 => Some(KeyAction::Update),
-        _ => None,
+// A list of its own and no generic search: a trait with all values and their numbers would say each list again.
+impl TryFrom<u8> for KeyAction {
+    type Error = RangeError;
+
+    ghost try_from_gives = { λ bits r. r ≡ ok_or (action_of bits) range_error };
+
+    fn try_from(bits: u8) -> Result<KeyAction, RangeError> {
+        match bits {
+            1 => Ok(KeyAction::Add),
+            2 => Ok(KeyAction::Delete),
+            3 => Ok(KeyAction::Update),
+            _ => Err(RangeError),
+        }
     }
 }
 
@@ -51,12 +59,8 @@ fn management_in(octet: u8) -> Option<Management>
     if octet / 8 % 8 != 0 {
         return None;
     }
-    let Some(action) = action_of(octet / 64) else {
-        return None;
-    };
-    let Some(key) = KeyId::from_number((octet % 8) as u64) else {
-        return None;
-    };
+    let action = KeyAction::try_from(octet / 64).ok()?;
+    let key = KeyId::try_from((octet % 8) as u64).ok()?;
     Some(Management { action, key })
 }
 
@@ -66,8 +70,9 @@ fn agreement_in(options: &[u8]) -> Option<KeyId>
     ensures { result ≡ agreement_in options.now }
 {
     match options {
-        [5, 36, octet, unread @ ..] if unread.len() == 35 && octet / 8 % 16 == 0 =>
-            KeyId::from_number((octet % 8) as u64),
+        [5, 36, octet, unread @ ..] if unread.len() == 35 && octet / 8 % 16 == 0 => KeyId::try_from(
+            (octet % 8) as u64,
+        ).ok(),
         _ => None,
     }
 }
@@ -75,19 +80,13 @@ fn agreement_in(options: &[u8]) -> Option<KeyId>
 fn added(new: Option<KeyId>) -> Request
     ensures { result ≡ added new }
 {
-    match new {
-        Some(new) => Request::Add(new),
-        None => Request::Senseless,
-    }
+    new.map_or(Request::Senseless, Request::Add)
 }
 
 fn updated(old: KeyId, new: Option<KeyId>) -> Request
     ensures { result ≡ updated old new }
 {
-    match new {
-        Some(new) => Request::Update(new, old),
-        None => Request::Senseless,
-    }
+    new.map_or(Request::Senseless, |new| Request::Update(new, old))
 }
 
 // What Key Management asks for, given the options behind it.
@@ -98,7 +97,7 @@ fn asked(management: Management, rest: &[u8]) -> Request
         KeyAction::Add => added(agreement_in(rest)),
         KeyAction::Update => updated(management.key, agreement_in(rest)),
         KeyAction::Delete => {
-            if rest.len() == 0 {
+            if rest.is_empty() {
                 Request::Delete(management.key)
             } else {
                 Request::Senseless
@@ -114,10 +113,7 @@ fn key_request(options: &[u8]) -> Request
     let [9, 1, octet, rest @ ..] = options else {
         return Request::Senseless;
     };
-    match management_in(*octet) {
-        Some(management) => asked(management, rest),
-        None => Request::Senseless,
-    }
+    management_in(*octet).map_or(Request::Senseless, |management| asked(management, rest))
 }
 
 // What the content of a control message asks for; none where it is no request, or one that needs no doing.
@@ -127,9 +123,9 @@ pub fn request_in(content: &[u8]) -> Option<Request>
     let [command, options @ ..] = content else {
         return None;
     };
-    match Command::from_number(*command) {
-        Some(Command::TerminateRequest) => Some(Request::Terminate),
-        Some(Command::ManageKeysRequest) => Some(key_request(options)),
+    match Command::try_from(*command) {
+        Ok(Command::TerminateRequest) => Some(Request::Terminate),
+        Ok(Command::ManageKeysRequest) => Some(key_request(options)),
         _ => None,
     }
 }

@@ -5,6 +5,7 @@
 use aes_suite::Aes;
 use arguments::RawSettings;
 use endpoint::end::Endpoint;
+use refusal::Fault;
 use std::{env, io};
 use store::store::SessionStore;
 use stores::one_place::OnePlace;
@@ -15,19 +16,11 @@ const READING: [u8; 32] = [0x5A; 32];
 
 const ID: [u8; 1] = [0x01];
 
-#[derive(Clone, Copy)]
-enum Run {
-    Seal,
-    Hear,
-    None,
-}
-
-fn run_of(word: &str) -> Run {
-    match word {
-        "seal" => Run::Seal,
-        "hear" => Run::Hear,
-        _ => Run::None,
-    }
+// A logger, and the service that it sends to.
+#[derive(Drop)]
+struct Ends<S: SessionStore, R: SessionStore, C: Suite> {
+    logger: Endpoint<S, C>,
+    service: Endpoint<R, C>,
 }
 
 fn begin<S: SessionStore, C: Suite>(end: &mut Endpoint<S, C>) {
@@ -45,55 +38,47 @@ fn begin<S: SessionStore, C: Suite>(end: &mut Endpoint<S, C>) {
     let _ = end.begin(&ID, raw, 1, keyset);
 }
 
-// Seals a reading, and hears it if asked to. The answer depends on the message.
-fn carry<S: SessionStore, R: SessionStore, C: Suite>(
-    logger: &mut Endpoint<S, C>,
-    service: &mut Endpoint<R, C>,
-    heard: bool,
-) -> u32 {
-    let mut buffer = [0u8; 64];
-    match logger.seal(Plane::User, &ID, &READING, &mut buffer) {
-        Ok(n) if heard => match service.hear(&mut buffer[0..n]) {
-            Ok(message) => message.header.counter,
-            Err(_) => 0,
-        },
-        Ok(_) => buffer[20] as u32,
-        Err(_) => 0,
+impl<S: SessionStore, R: SessionStore, C: Suite> Ends<S, R, C> {
+    // Seals a reading, and hears it if asked to: a flag, since a closure over both ends would be no plainer. The answer depends on the
+    // message.
+    fn carry(&mut self, heard: bool) -> Result<u32, Fault> {
+        let mut buffer = [0u8; 64];
+        let n = self.logger.seal(Plane::User, &ID, &READING, &mut buffer)?;
+        if !heard {
+            return Ok(buffer[20] as u32);
+        }
+        let message = self.service.hear(&mut buffer[0..n])?;
+        Ok(message.header.counter)
     }
-}
 
-// So many readings.
-fn carry_all<S: SessionStore, R: SessionStore, C: Suite>(
-    logger: &mut Endpoint<S, C>,
-    service: &mut Endpoint<R, C>,
-    times: u32,
-    heard: bool,
-) -> u32 {
-    let mut sum = 0u32;
-    for _ in 0..times {
-        sum = sum.wrapping_add(carry(logger, service, heard));
+    // So many readings.
+    fn carry_all(&mut self, times: u32, heard: bool) -> u32 {
+        let mut sum = 0u32;
+        for _ in 0..times {
+            sum = sum.wrapping_add(self.carry(heard).unwrap_or(0));
+        }
+        sum
     }
-    sum
 }
 
 fn main(rt: HostRuntime) -> io::Result<()> {
-    let mut run = Run::None;
-    let mut times = 0u32;
-    for (i, word) in env::args(&rt)?.enumerate() {
-        if i == 1 {
-            run = run_of(word.as_str());
-        } else if i == 2 {
-            times = word.as_str().parse::<u32>().unwrap_or(0);
-        }
-    }
-    let mut logger = Endpoint::new(Role::Logger, OnePlace::new(), Aes);
-    let mut service = Endpoint::new(Role::Service, OnePlace::new(), Aes);
-    begin(&mut logger);
-    begin(&mut service);
-    let sum = match run {
-        Run::Seal => carry_all(&mut logger, &mut service, times, false),
-        Run::Hear => carry_all(&mut logger, &mut service, times, true),
-        Run::None => 0,
+    // Each of the programs that are measured reads its own two arguments; a number that is none is 0.
+    let mut words = env::args(&rt)?.skip(1);
+    let run = words.next();
+    let times = words
+        .next()
+        .and_then(|word| word.as_str().parse::<u32>().ok())
+        .unwrap_or(0);
+    let mut ends = Ends {
+        logger: Endpoint::new(Role::Logger, OnePlace::new(), Aes),
+        service: Endpoint::new(Role::Service, OnePlace::new(), Aes),
+    };
+    begin(&mut ends.logger);
+    begin(&mut ends.service);
+    let sum = match run.as_ref().map(|word| word.as_str()) {
+        Some("seal") => ends.carry_all(times, false),
+        Some("hear") => ends.carry_all(times, true),
+        _ => 0,
     };
     println!(rt; "{sum}")
 }

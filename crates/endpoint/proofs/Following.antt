@@ -1,5 +1,5 @@
 -- What is found under each ID follows the calls. Assumes nothing.
-use Rattle.std.proofs.Common.{◌≡◌, ℕ, zero, suc, ◌+◌, ◌-◌, ◌≤◌, Bool, true, false, cond, not, [], ◌∷◌, length, is_some, Some, Ok, Err, Option, Result, sym, refl, ap, ◌∙◌, arith}
+use Rattle.std.proofs.Common.{None, ◌≡◌, ℕ, zero, suc, ◌+◌, ◌-◌, ◌≤◌, Bool, true, false, cond, not, [], ◌∷◌, length, is_some, Some, Ok, Err, Option, Result, sym, refl, ap, ◌∙◌, arith}
 use mathlib.Core.Path.{fun_ext}
 use Rattle.std.proofs.lemmas.Bool.{cond_both, both_ways, not-true}
 use Rattle.std.specs.List.{insert}
@@ -8,8 +8,6 @@ use Rattle.refusal.specs.Tests.{and_then}
 use Rattle.refusal.proofs.Rows.{need_held}
 use Rattle.wire.specs.declared.id.SessionId.{SessionId}
 use Rattle.wire.specs.Ids.{same_id}
-use Rattle.keys.specs.declared.keys.Change.{Change}
-use Rattle.keys.specs.declared.keys.Change.TheVariants.{Done, Ignored}
 use Rattle.session.specs.declared.session.Session.{Session}
 use Rattle.store.specs.Stores.{Pairs, lookup, has, apart, replaced, without, add_answer, Added}
 use Rattle.store.proofs.Finding.{found_after}
@@ -63,11 +61,11 @@ done : (e : EndMeaning) (r : Result (SessionId × Session) Fault) → viewed (wi
 done e (Ok p) = put_view_lem e p.0 p.1
 done e (Err x) = refl
 
-changed : (e : EndMeaning) (id : SessionId) (c : Change Session) → viewed (with_pairs e (changed_pairs e.pairs id c)) ≡ change_view (viewed e) id c
-changed e id (Done s) = put_view_lem e id s
-changed e id Ignored = refl
+changed : (e : EndMeaning) (id : SessionId) (c : Option Session) → viewed (with_pairs e (changed_pairs e.pairs id c)) ≡ change_view (viewed e) id c
+changed e id (Some s) = put_view_lem e id s
+changed e id None = refl
 
-effect : (e : EndMeaning) (r : Result (SessionId × Change Session) Fault) → viewed (with_pairs e (effect_pairs r e.pairs)) ≡ effect_view (viewed e) r
+effect : (e : EndMeaning) (r : Result (SessionId × Option Session) Fault) → viewed (with_pairs e (effect_pairs r e.pairs)) ≡ effect_view (viewed e) r
 effect e (Ok p) = changed e p.0 p.1
 effect e (Err x) = refl
 

@@ -1,5 +1,5 @@
 -- Every call keeps the rules of all sessions. Assumes nothing.
-use Rattle.std.proofs.Common.{◌≡◌, ℕ, ◌≤◌, false, not, ◌&&◌, leb, List, length, IfOk, Some, None, Ok, Err, Option, Result, sym, refl, ap, subst, arith}
+use Rattle.std.proofs.Common.{◌≡◌, ℕ, ◌≤◌, false, not, ◌&&◌, leb, List, length, IfOk, IfSome, Some, None, Ok, Err, Option, Result, sym, refl, ap, subst, arith}
 use Rattle.std.proofs.lemmas.Bool.{and_parts, leb-true, not-true}
 use Rattle.std.specs.Option.{ok_or}
 use Rattle.refusal.specs.declared.Fault.{Fault}
@@ -12,9 +12,6 @@ use Rattle.wire.specs.declared.parties.Role.{Role}
 use Rattle.wire.specs.Fronts.{front_read}
 use Rattle.framing.specs.Formats.{tag_octets, tag_length_of, data_length_of}
 use Rattle.framing.specs.Layouts.{planned}
-use Rattle.keys.specs.declared.keys.Change.{Change}
-use Rattle.keys.specs.declared.keys.Change.TheVariants.{Done, Ignored}
-use Rattle.keys.specs.Rules.{Leaves}
 use Rattle.message.specs.declared.open.Opened.{Opened}
 use Rattle.message.specs.Opens.{body_answer}
 use Rattle.session.specs.declared.session.Session.{Session}
@@ -67,18 +64,18 @@ found_is l id place s h = go s (lookup l id) _ h
 abbrev SoundPair : SessionId × Session → Type 0
 SoundPair p = Sound p.1
 
-abbrev SoundChange : SessionId × Change Session → Type 0
-SoundChange p = Leaves Sound p.1
+abbrev SoundChange : SessionId × Option Session → Type 0
+SoundChange p = IfSome p.1 Sound
 
 put_kept : (l : Pairs) (r : Result (SessionId × Session) Fault) → Kept l → Makes r SoundPair → Kept (put_back r l)
 put_kept l (Ok p) h s = (stores.rules_are_kept).put l p.0 p.1 h (s p refl)
 put_kept l (Err e) h s = h
 
-change_kept : (l : Pairs) (id : SessionId) (c : Change Session) → Kept l → Leaves Sound c → Kept (changed_pairs l id c)
-change_kept l id (Done s) h k = (stores.rules_are_kept).put l id s h k
-change_kept l id Ignored h k = h
+change_kept : (l : Pairs) (id : SessionId) (c : Option Session) → Kept l → IfSome c Sound → Kept (changed_pairs l id c)
+change_kept l id (Some s) h k = (stores.rules_are_kept).put l id s h k
+change_kept l id None h k = h
 
-effect_kept : (l : Pairs) (r : Result (SessionId × Change Session) Fault) → Kept l → Makes r SoundChange → Kept (effect_pairs r l)
+effect_kept : (l : Pairs) (r : Result (SessionId × Option Session) Fault) → Kept l → Makes r SoundChange → Kept (effect_pairs r l)
 effect_kept l (Ok p) h s = change_kept l p.0 p.1 h (s p refl)
 effect_kept l (Err e) h s = h
 
@@ -120,7 +117,7 @@ module _ (e : EndMeaning) (h : Kept e.pairs) where
       step (key_asked old) _ p (SoundChange p) e2 (λ j _ e3.
       step (found (lookup e.pairs) id 0) _ p (SoundChange p) e3 (λ s there e4.
       step (session.swapped k j x s) _ p (SoundChange p) e4 (λ c is e5.
-      last SoundChange (id, c) p e5 (made_ok (Leaves Sound) (session.swapped k j x s) ((sessions.rules_are_kept).swap k j x s (sound_found id 0 s there)) c is))))))
+      last SoundChange (id, c) p e5 (made_ok (λ c. IfSome c Sound) (session.swapped k j x s) ((sessions.rules_are_kept).swap k j x s (sound_found id 0 s there)) c is))))))
 
   -- the session of a plan is the one found
   plan_sound : (plane : Plane) (octets content : List ℕ) (room : ℕ) → Makes (sealing v plane octets content room) (λ p. Sound p.session)

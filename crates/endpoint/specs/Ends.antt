@@ -9,8 +9,17 @@ use Rattle.wire.specs.declared.parties.Role.{Role}
 use Rattle.message.specs.Messages.{Keystream, Tag}
 use Rattle.session.specs.declared.session.Session.{Session}
 use Rattle.store.specs.Stores.{Pairs, lookup, replaced}
-use Rattle.endpoint.specs.declared.end.Endpoint.{Endpoint}
+use Rattle.suite.specs.declared.Suite.{Ghosts}
 
+-- an end as its callers see it
+pub record EndState (C : Type 0) : Type 0 where
+  pub role : Role
+  -- the sessions, and how many there is room for
+  pub pairs : Pairs
+  pub room : ℕ
+  pub suite : C
+
+-- the same, with what its suite means in the place of the suite
 pub record EndMeaning : Type 0 where
   pub role : Role
   -- the sessions, and how many there is room for
@@ -21,15 +30,15 @@ pub record EndMeaning : Type 0 where
   pub tag : Tag
   pub size : ℕ
 
--- the meaning of an end, from those of its store and its suite
-abbrev pub meaning : {S C : Type 0} → (S → Pairs) → (S → ℕ) → (C → Keystream) → (C → Tag) → (C → ℕ) → Endpoint S C → EndMeaning
-meaning pairs room keystream tag size e = record {
+-- the meaning of an end, by what suites of its type mean
+abbrev pub meaning : {C : Type 0} → Ghosts C → EndState C → EndMeaning
+meaning suites e = record {
   role = e.role;
-  pairs = pairs e.store;
-  room = room e.store;
-  keystream = keystream e.suite;
-  tag = tag e.suite;
-  size = size e.suite;
+  pairs = e.pairs;
+  room = e.room;
+  keystream = suites.keystream e.suite;
+  tag = suites.tag_of e.suite;
+  size = suites.size e.suite;
 }
 
 -- what an end's answers depend on: of its sessions only which one is found under each ID, and how many there are

@@ -10,7 +10,7 @@ use Rattle.framing.specs.Formats.{inputs_of}
 use Rattle.message.specs.declared.open.Opened.{Opened}
 use Rattle.message.specs.Opens.{cleared, body_answer}
 use Rattle.session.specs.declared.session.Session.{Session}
-use Rattle.session.specs.Sessions.{admission, accepted}
+use Rattle.session.specs.Sessions.{protection_by, admission, accepted}
 use Rattle.store.specs.Stores.{Pairs, lookup}
 use Rattle.endpoint.specs.declared.message_calls.Judged.{Judged}
 use Rattle.endpoint.specs.declared.order.Heard.{Heard}
@@ -27,7 +27,7 @@ judged v m =
 
 -- the other end sealed it, under the key that it names
 abbrev pub received_under : Judged → Protection
-received_under j = record { keys = j.key.keyset; sender = other_role j.session.settings.role; format = j.session.settings.format }
+received_under j = protection_by j.session.settings (other_role j.session.settings.role) j.key.keyset
 
 abbrev pub accepted_in : Judged → Session
 accepted_in j = accepted j.session j.front.header.plane j.key.id j.front.header.counter

@@ -1,11 +1,9 @@
 -- Give, Choose, Drop and Swap. Assumes nothing.
-use Rattle.std.specs.Prelude.{ℕ, List, Ok, Err, Result}
+use Rattle.std.specs.Prelude.{ℕ, List, Some, None, Ok, Err, Option, Result}
 use Rattle.refusal.specs.declared.Fault.{Fault}
 use Rattle.refusal.specs.Tests.{and_then}
 use Rattle.suite.specs.declared.Keyset.{Keyset}
 use Rattle.wire.specs.declared.id.SessionId.{SessionId}
-use Rattle.keys.specs.declared.keys.Change.{Change}
-use Rattle.keys.specs.declared.keys.Change.TheVariants.{Done, Ignored}
 use Rattle.session.specs.declared.session.Session.{Session}
 use Rattle.session.specs.Sessions.{given, chosen, dropped, swapped}
 use Rattle.store.specs.Stores.{Pairs, replaced}
@@ -33,7 +31,7 @@ choosing v octets n =
     Ok (id, t)))))
 
 -- 13, 6
-abbrev pub dropping : EndView → List ℕ → ℕ → Result (SessionId × Change Session) Fault
+abbrev pub dropping : EndView → List ℕ → ℕ → Result (SessionId × Option Session) Fault
 dropping v octets n =
     and_then (id_asked octets) (λ id.
     and_then (key_asked n) (λ k.
@@ -41,7 +39,7 @@ dropping v octets n =
     Ok (id, dropped k s))))
 
 -- 13, 6, 18
-abbrev pub swapping : EndView → List ℕ → ℕ → ℕ → Keyset → Result (SessionId × Change Session) Fault
+abbrev pub swapping : EndView → List ℕ → ℕ → ℕ → Keyset → Result (SessionId × Option Session) Fault
 swapping v octets new old x =
     and_then (id_asked octets) (λ id.
     and_then (key_asked new) (λ k.
@@ -58,20 +56,20 @@ abbrev pub done_end : EndMeaning → Result (SessionId × Session) Fault → End
 done_end e r = with_pairs e (put_back r e.pairs)
 
 -- and where it can
-abbrev pub effect_of : Change Session → Effect
-effect_of (Done s) = effect.Done
-effect_of Ignored = effect.Ignored
+abbrev pub effect_of : Option Session → Effect
+effect_of (Some s) = effect.Done
+effect_of None = effect.Ignored
 
-abbrev pub effect_answer : Result (SessionId × Change Session) Fault → Result Effect Fault
+abbrev pub effect_answer : Result (SessionId × Option Session) Fault → Result Effect Fault
 effect_answer r = and_then r (λ p. Ok (effect_of p.1))
 
-abbrev pub changed_pairs : Pairs → SessionId → Change Session → Pairs
-changed_pairs l id (Done s) = replaced l id s
-changed_pairs l id Ignored = l
+abbrev pub changed_pairs : Pairs → SessionId → Option Session → Pairs
+changed_pairs l id (Some s) = replaced l id s
+changed_pairs l id None = l
 
-abbrev pub effect_pairs : Result (SessionId × Change Session) Fault → Pairs → Pairs
+abbrev pub effect_pairs : Result (SessionId × Option Session) Fault → Pairs → Pairs
 effect_pairs (Ok p) l = changed_pairs l p.0 p.1
 effect_pairs (Err e) l = l
 
-abbrev pub effect_end : EndMeaning → Result (SessionId × Change Session) Fault → EndMeaning
+abbrev pub effect_end : EndMeaning → Result (SessionId × Option Session) Fault → EndMeaning
 effect_end e r = with_pairs e (effect_pairs r e.pairs)

@@ -12,7 +12,7 @@ use Rattle.message.specs.Messages.{message}
 use Rattle.keys.specs.Ids.{key_number}
 use Rattle.session.specs.declared.session.Session.{Session}
 use Rattle.session.specs.declared.session.Outgoing.{Outgoing}
-use Rattle.session.specs.Sessions.{outgoing, sealed}
+use Rattle.session.specs.Sessions.{protection_by, outgoing, sealed}
 use Rattle.store.specs.Stores.{Pairs, lookup}
 use Rattle.arguments.specs.Arguments.{id_asked, content_asked}
 use Rattle.endpoint.specs.declared.message_calls.Plan.{Plan}
@@ -32,7 +32,7 @@ sealing v plane octets content room =
     Ok (record { session = s; header = header_of plane id o; keyset = o.key.keyset; layout = w }))))))
 
 abbrev pub sent_under : Plan → Protection
-sent_under p = record { keys = p.keyset; sender = p.session.settings.role; format = p.session.settings.format }
+sent_under p = protection_by p.session.settings p.session.settings.role p.keyset
 
 abbrev pub seal_answer : EndView → Plane → List ℕ → List ℕ → ℕ → Result ℕ Fault
 seal_answer v plane octets content room = and_then (sealing v plane octets content room) (λ p. Ok p.layout.end)

@@ -5,8 +5,6 @@ use Rattle.suite.specs.declared.Keyset.{Keyset}
 use Rattle.wire.specs.declared.id.SessionId.{SessionId}
 use Rattle.wire.specs.declared.parties.Plane.{Plane}
 use Rattle.wire.specs.Ids.{same_id}
-use Rattle.keys.specs.declared.keys.Change.{Change}
-use Rattle.keys.specs.declared.keys.Change.TheVariants.{Done, Ignored}
 use Rattle.session.specs.declared.session.Session.{Session}
 use Rattle.store.specs.Stores.{Pairs, apart}
 use Rattle.arguments.specs.declared.RawSettings.{RawSettings}
@@ -29,11 +27,11 @@ abbrev pub put_view : EndView → Result (SessionId × Session) Fault → EndVie
 put_view v (Ok p) = finding v (put_look v.look p.0 p.1) v.count
 put_view v (Err e) = v
 
-abbrev pub change_view : EndView → SessionId → Change Session → EndView
-change_view v id (Done s) = finding v (put_look v.look id s) v.count
-change_view v id Ignored = v
+abbrev pub change_view : EndView → SessionId → Option Session → EndView
+change_view v id (Some s) = finding v (put_look v.look id s) v.count
+change_view v id None = v
 
-abbrev pub effect_view : EndView → Result (SessionId × Change Session) Fault → EndView
+abbrev pub effect_view : EndView → Result (SessionId × Option Session) Fault → EndView
 effect_view v (Ok p) = change_view v p.0 p.1
 effect_view v (Err e) = v
 

@@ -6,7 +6,6 @@ ghost use Rattle.endpoint.specs.KeyCalls.{giving, choosing, dropping, swapping, 
 
 use crate::end::Endpoint;
 use arguments::{key_id, session_id};
-use keys::keys::Change;
 use refusal::Fault;
 use session::session::Session;
 use store::store::SessionStore;
@@ -14,7 +13,7 @@ use suite::{Keyset, Suite};
 use wire::id::SessionId;
 
 // What a call did that may have nothing to do.
-#[derive(Clone, Copy)]
+#[derive(Clone, Copy, PartialEq, Eq, Debug)]
 pub enum Effect {
     Done,
     Ignored,
@@ -23,18 +22,19 @@ pub enum Effect {
 impl<S: SessionStore, C: Suite> Endpoint<S, C> {
     // Fills an empty slot.
     pub fn give(&mut self, id: &[u8], key: u64, keyset: Keyset) -> Result<(), Fault>
-        ensures value { result ≡ done_answer (giving (viewed (meaning S.pairs S.capacity C.keystream C.tag_of C.size self.old)) id.now key keyset) }
-        ensures end { meaning S.pairs S.capacity C.keystream C.tag_of C.size self.new ≡ done_end (meaning S.pairs S.capacity C.keystream C.tag_of C.size self.old) (giving (viewed (meaning S.pairs S.capacity C.keystream C.tag_of C.size self.old)) id.now key keyset) }
+        ensures value { result ≡ done_answer (giving (viewed (meaning C.Suite self.old)) id.now key keyset) }
+        ensures end { meaning C.Suite self.new ≡ done_end (meaning C.Suite self.old) (giving (viewed (meaning C.Suite self.old)) id.now key keyset) }
     {
         let id = session_id(id)?;
         let key = key_id(key)?;
         let session = self.find(id, 0)?.give(key, keyset)?;
         self.store.put(id, session)
     }
+
     // Sends with another key from now on.
     pub fn choose(&mut self, id: &[u8], key: u64) -> Result<(), Fault>
-        ensures value { result ≡ done_answer (choosing (viewed (meaning S.pairs S.capacity C.keystream C.tag_of C.size self.old)) id.now key) }
-        ensures end { meaning S.pairs S.capacity C.keystream C.tag_of C.size self.new ≡ done_end (meaning S.pairs S.capacity C.keystream C.tag_of C.size self.old) (choosing (viewed (meaning S.pairs S.capacity C.keystream C.tag_of C.size self.old)) id.now key) }
+        ensures value { result ≡ done_answer (choosing (viewed (meaning C.Suite self.old)) id.now key) }
+        ensures end { meaning C.Suite self.new ≡ done_end (meaning C.Suite self.old) (choosing (viewed (meaning C.Suite self.old)) id.now key) }
     {
         let id = session_id(id)?;
         let key = key_id(key)?;
@@ -44,8 +44,8 @@ impl<S: SessionStore, C: Suite> Endpoint<S, C> {
 
     // Empties a slot.
     pub fn drop_key(&mut self, id: &[u8], key: u64) -> Result<Effect, Fault>
-        ensures value { result ≡ effect_answer (dropping (viewed (meaning S.pairs S.capacity C.keystream C.tag_of C.size self.old)) id.now key) }
-        ensures end { meaning S.pairs S.capacity C.keystream C.tag_of C.size self.new ≡ effect_end (meaning S.pairs S.capacity C.keystream C.tag_of C.size self.old) (dropping (viewed (meaning S.pairs S.capacity C.keystream C.tag_of C.size self.old)) id.now key) }
+        ensures value { result ≡ effect_answer (dropping (viewed (meaning C.Suite self.old)) id.now key) }
+        ensures end { meaning C.Suite self.new ≡ effect_end (meaning C.Suite self.old) (dropping (viewed (meaning C.Suite self.old)) id.now key) }
     {
         let id = session_id(id)?;
         let key = key_id(key)?;
@@ -55,8 +55,8 @@ impl<S: SessionStore, C: Suite> Endpoint<S, C> {
 
     // Puts a new key in place of an old one, which stays until a message comes under the new one.
     pub fn swap(&mut self, id: &[u8], new: u64, old: u64, keyset: Keyset) -> Result<Effect, Fault>
-        ensures value { result ≡ effect_answer (swapping (viewed (meaning S.pairs S.capacity C.keystream C.tag_of C.size self.old)) id.now new old keyset) }
-        ensures end { meaning S.pairs S.capacity C.keystream C.tag_of C.size self.new ≡ effect_end (meaning S.pairs S.capacity C.keystream C.tag_of C.size self.old) (swapping (viewed (meaning S.pairs S.capacity C.keystream C.tag_of C.size self.old)) id.now new old keyset) }
+        ensures value { result ≡ effect_answer (swapping (viewed (meaning C.Suite self.old)) id.now new old keyset) }
+        ensures end { meaning C.Suite self.new ≡ effect_end (meaning C.Suite self.old) (swapping (viewed (meaning C.Suite self.old)) id.now new old keyset) }
     {
         let id = session_id(id)?;
         let new = key_id(new)?;
@@ -66,17 +66,17 @@ impl<S: SessionStore, C: Suite> Endpoint<S, C> {
     }
 
     // Puts a changed session back, if there was something to do.
-    fn put_change(&mut self, id: SessionId, change: Change<Session>) -> Result<Effect, Fault>
-        requires there { has (S.pairs self.old.store) id ≡ true }
+    fn put_change(&mut self, id: SessionId, change: Option<Session>) -> Result<Effect, Fault>
+        requires there { has self.old.pairs id ≡ true }
         ensures value { result ≡ Ok (effect_of change) }
-        ensures end { meaning S.pairs S.capacity C.keystream C.tag_of C.size self.new ≡ with_pairs (meaning S.pairs S.capacity C.keystream C.tag_of C.size self.old) (changed_pairs (S.pairs self.old.store) id change) }
+        ensures end { meaning C.Suite self.new ≡ with_pairs (meaning C.Suite self.old) (changed_pairs self.old.pairs id change) }
     {
         match change {
-            Change::Done(session) => {
+            Some(session) => {
                 self.store.put(id, session)?;
                 Ok(Effect::Done)
             }
-            Change::Ignored => Ok(Effect::Ignored),
+            None => Ok(Effect::Ignored),
         }
     }
 }

@@ -1,6 +1,18 @@
-// What holds of every call.
+// What holds of every end and of every call.
+ghost use Rattle.std.specs.Prelude.{◌≤◌, length};
 ghost use Rattle.endpoint.specs.Rules.{RulesAreKept};
 ghost use Rattle.endpoint.specs.Views.{ViewsFollow};
+
+use crate::end::Endpoint;
+use store::store::SessionStore;
+use suite::Suite;
+
+// An end has room for the sessions that it has.
+pub fn sessions_have_room<S: SessionStore, C: Suite>(end: &Endpoint<S, C>)
+    ensures { length end.now.pairs ≤ end.now.room }
+{
+    let _store = &end.store;
+}
 
 // Where no ID stands twice and every session keeps its rules, a call leaves it so, whatever it answers.
 pub fn calls_keep_the_rules()

@@ -41,11 +41,8 @@ impl Judged {
     fn protection(self) -> Protection
         ensures { result ≡ received_under self }
     {
-        Protection {
-            keys: self.key.keyset,
-            sender: self.session.settings.role.other(),
-            format: self.session.settings.format,
-        }
+        let settings = self.session.settings;
+        settings.protection(settings.role.other(), self.key.keyset)
     }
 
     // The session once the message is accepted.
@@ -62,18 +59,15 @@ impl Plan {
     fn protection(self) -> Protection
         ensures { result ≡ sent_under self }
     {
-        Protection {
-            keys: self.keyset,
-            sender: self.session.settings.role,
-            format: self.session.settings.format,
-        }
+        let settings = self.session.settings;
+        settings.protection(settings.role, self.keyset)
     }
 }
 
 impl<S: SessionStore, C: Suite> Endpoint<S, C> {
     fn judge(&self, message: &[u8]) -> Result<Judged, Fault>
-        ensures value { result ≡ judged (viewed (meaning S.pairs S.capacity C.keystream C.tag_of C.size self.now)) message.now }
-        ensures stands { IfOk result (Stands (S.pairs self.now.store) (length message.now)) }
+        ensures value { result ≡ judged (viewed (meaning C.Suite self.now)) message.now }
+        ensures stands { IfOk result (Stands self.now.pairs (length message.now)) }
     {
         let front = read_front(message)?;
         let header = front.header;
@@ -88,9 +82,9 @@ impl<S: SessionStore, C: Suite> Endpoint<S, C> {
 
     // Reads a message in place. An accepted one is then in clear, and its session has counted it; a refused one is as it arrived.
     pub fn hear(&mut self, message: &mut [u8]) -> Result<Heard, Fault>
-        ensures value { result ≡ hear_answer (viewed (meaning S.pairs S.capacity C.keystream C.tag_of C.size self.old)) message.old }
-        ensures buffer { message.new ≡ hear_buffer (viewed (meaning S.pairs S.capacity C.keystream C.tag_of C.size self.old)) message.old }
-        ensures end { meaning S.pairs S.capacity C.keystream C.tag_of C.size self.new ≡ hear_end (meaning S.pairs S.capacity C.keystream C.tag_of C.size self.old) message.old }
+        ensures value { result ≡ hear_answer (viewed (meaning C.Suite self.old)) message.old }
+        ensures buffer { message.new ≡ hear_buffer (viewed (meaning C.Suite self.old)) message.old }
+        ensures end { meaning C.Suite self.new ≡ hear_end (meaning C.Suite self.old) message.old }
         ensures inside { IfOk result (λ h. h.place + h.length ≤ length message.old) }
     {
         let judged = self.judge(message)?;
@@ -100,8 +94,8 @@ impl<S: SessionStore, C: Suite> Endpoint<S, C> {
     }
 
     fn plan(&self, plane: Plane, id: &[u8], content: &[u8], room: usize) -> Result<Plan, Fault>
-        ensures value { result ≡ sealing (viewed (meaning S.pairs S.capacity C.keystream C.tag_of C.size self.now)) plane id.now content.now room }
-        ensures writable { IfOk result (Writable (S.pairs self.now.store) (length content.now) room) }
+        ensures value { result ≡ sealing (viewed (meaning C.Suite self.now)) plane id.now content.now room }
+        ensures writable { IfOk result (Writable self.now.pairs (length content.now) room) }
     {
         let id = session_id(id)?;
         check_content(plane, content)?;
@@ -130,9 +124,9 @@ impl<S: SessionStore, C: Suite> Endpoint<S, C> {
         content: &[u8],
         out: &mut [u8],
     ) -> Result<usize, Fault>
-        ensures value { result ≡ seal_answer (viewed (meaning S.pairs S.capacity C.keystream C.tag_of C.size self.old)) plane id.now content.now (length out.old) }
-        ensures buffer { out.new ≡ seal_buffer (viewed (meaning S.pairs S.capacity C.keystream C.tag_of C.size self.old)) plane id.now content.now out.old }
-        ensures end { meaning S.pairs S.capacity C.keystream C.tag_of C.size self.new ≡ seal_end (meaning S.pairs S.capacity C.keystream C.tag_of C.size self.old) plane id.now content.now (length out.old) }
+        ensures value { result ≡ seal_answer (viewed (meaning C.Suite self.old)) plane id.now content.now (length out.old) }
+        ensures buffer { out.new ≡ seal_buffer (viewed (meaning C.Suite self.old)) plane id.now content.now out.old }
+        ensures end { meaning C.Suite self.new ≡ seal_end (meaning C.Suite self.old) plane id.now content.now (length out.old) }
         ensures within { IfOk result (λ n. n ≤ length out.old) }
     {
         let plan = self.plan(plane, id, content, out.len())?;

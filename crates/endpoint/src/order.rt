@@ -15,7 +15,8 @@ pub struct Order {
     request: Request,
 }
 
-// What an accepted message says, where its content stands in clear, and the order that it brings.
+// What an accepted message says, where its content stands in clear, and the order that it brings. A place and no slice: the octets are in
+// the buffer that its caller lent, and there is no heap.
 #[derive(Drop)]
 pub struct Heard {
     pub header: Header,
@@ -45,13 +46,10 @@ fn order_in(header: Header, content: &[u8]) -> Option<Order>
 {
     match header.plane {
         Plane::User => None,
-        Plane::Control => match request_in(content) {
-            Some(request) => Some(Order {
-                id: header.id,
-                request,
-            }),
-            None => None,
-        },
+        Plane::Control => request_in(content).map(|request| Order {
+            id: header.id,
+            request,
+        }),
     }
 }
 

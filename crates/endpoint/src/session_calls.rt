@@ -28,13 +28,15 @@ pub struct Report {
     pub user: PlaneReport,
 }
 
-fn plane_report(counters: Counters) -> PlaneReport
-    ensures { result ≡ plane_report counters }
-{
-    PlaneReport {
-        sealed: counters.last_sealed,
-        accepted: counters.accepted,
-        missed: counters.missed(),
+impl From<Counters> for PlaneReport {
+    ghost from_gives = { λ c r. r ≡ plane_report c };
+
+    fn from(counters: Counters) -> PlaneReport {
+        PlaneReport {
+            sealed: counters.last_sealed,
+            accepted: counters.accepted,
+            missed: counters.missed(),
+        }
     }
 }
 
@@ -47,9 +49,9 @@ impl<S: SessionStore, C: Suite> Endpoint<S, C> {
         key: u64,
         keyset: Keyset,
     ) -> Result<(), Fault>
-        ensures value { result ≡ begin_answer (viewed (meaning S.pairs S.capacity C.keystream C.tag_of C.size self.old)) id.now raw key keyset }
-        ensures pairs { Begun (S.pairs self.old.store) (S.pairs self.new.store) (beginning (viewed (meaning S.pairs S.capacity C.keystream C.tag_of C.size self.old)) id.now raw key keyset) result }
-        ensures end { meaning S.pairs S.capacity C.keystream C.tag_of C.size self.new ≡ with_pairs (meaning S.pairs S.capacity C.keystream C.tag_of C.size self.old) (S.pairs self.new.store) }
+        ensures value { result ≡ begin_answer (viewed (meaning C.Suite self.old)) id.now raw key keyset }
+        ensures pairs { Begun self.old.pairs self.new.pairs (beginning (viewed (meaning C.Suite self.old)) id.now raw key keyset) result }
+        ensures end { meaning C.Suite self.new ≡ with_pairs (meaning C.Suite self.old) self.new.pairs }
     {
         let id = session_id(id)?;
         let settings = settings(self.role, self.suite.tag_length(), raw)?;
@@ -59,20 +61,20 @@ impl<S: SessionStore, C: Suite> Endpoint<S, C> {
 
     // How many messages of a session were sealed, accepted and missed.
     pub fn report(&self, id: &[u8]) -> Result<Report, Fault>
-        ensures { result ≡ report_answer (viewed (meaning S.pairs S.capacity C.keystream C.tag_of C.size self.now)) id.now }
+        ensures { result ≡ report_answer (viewed (meaning C.Suite self.now)) id.now }
     {
         let id = session_id(id)?;
         let session = self.find(id, 0)?;
         Ok(Report {
-            control: plane_report(session.control),
-            user: plane_report(session.user),
+            control: PlaneReport::from(session.control),
+            user: PlaneReport::from(session.user),
         })
     }
 
     // Removes a session.
     pub fn end(&mut self, id: &[u8]) -> Result<(), Fault>
-        ensures value { result ≡ end_answer (viewed (meaning S.pairs S.capacity C.keystream C.tag_of C.size self.old)) id.now }
-        ensures end { meaning S.pairs S.capacity C.keystream C.tag_of C.size self.new ≡ end_end (meaning S.pairs S.capacity C.keystream C.tag_of C.size self.old) id.now }
+        ensures value { result ≡ end_answer (viewed (meaning C.Suite self.old)) id.now }
+        ensures end { meaning C.Suite self.new ≡ end_end (meaning C.Suite self.old) id.now }
     {
         let id = session_id(id)?;
         self.store.take(id)

@@ -1,6 +1,7 @@
 -- The tests of the rules decide them. Assumes nothing.
-use Rattle.std.proofs.Common.{◌≡◌, Bool, true, false, not, ◌&&◌, Some, None, Decides, Option, sym, refl, ap, ◌∙◌}
+use Rattle.std.proofs.Common.{◌≡◌, Bool, true, false, not, List, [], ◌∷◌, Some, None, Decides, Option, sym, refl, ap, ◌∙◌}
 use Rattle.std.proofs.lemmas.Bool.{both_ways, not-true, not_from_false, and_parts, and_from}
+use Rattle.std.specs.List.{list_all}
 use Rattle.keys.specs.declared.id.KeyId.{KeyId}
 use Rattle.keys.specs.declared.id.KeyId.TheVariants.{One, Two, Three, Four, Five, Six, Seven}
 use Rattle.keys.specs.declared.record.Slot.{Slot}
@@ -9,7 +10,7 @@ use Rattle.keys.specs.declared.keys.Keys.{Keys}
 use Rattle.keys.specs.Ids.{same_key}
 use Rattle.keys.specs.Slots.{waits_for, slot_of}
 use Rattle.keys.specs.Changes.{holds}
-use Rattle.keys.specs.Rules.{SoundKeys, slot_test, slots_test, sending_test}
+use Rattle.keys.specs.Rules.{SoundKeys, slot_test, slots_test, sending_test, every_key}
 use Rattle.keys.proofs.Views.{none_some, some_same, same_key_lem, same_self}
 
 sends : (ks : Keys) (o : Option KeyId) → sending_test ks o ≡ true → (k : KeyId) → o ≡ Some k → holds ks k ≡ true
@@ -32,11 +33,8 @@ module _ (ks : Keys) (k : KeyId) where
   passes (Held x) h a = refl
   passes (Leaving x w) h a = and_from (not (same_key w k)) (holds ks w) (not_from_false (same_key w k) a) (h w (same_self w))
 
--- seven tests are a test of each Key ID
-abbrev All : (KeyId → Bool) → Bool
-All t = t One && (t Two && (t Three && (t Four && (t Five && (t Six && t Seven)))))
-
-all_each : (t : KeyId → Bool) → All t ≡ true → (k : KeyId) → t k ≡ true
+-- a test of every Key ID in the list is one of each
+all_each : (t : KeyId → Bool) → list_all t every_key ≡ true → (k : KeyId) → t k ≡ true
 all_each t h =
     let a = and_parts (t One) _ h in
     let b = and_parts (t Two) _ a.1 in
@@ -44,19 +42,12 @@ all_each t h =
     let d = and_parts (t Four) _ c.1 in
     let e = and_parts (t Five) _ d.1 in
     let f = and_parts (t Six) _ e.1 in
-    go t a.0 b.0 c.0 d.0 e.0 f.0 f.1
-  where
-    go : (t : KeyId → Bool) → t One ≡ true → t Two ≡ true → t Three ≡ true → t Four ≡ true → t Five ≡ true → t Six ≡ true → t Seven ≡ true → (k : KeyId) → t k ≡ true
-    go t a b c d e f g One = a
-    go t a b c d e f g Two = b
-    go t a b c d e f g Three = c
-    go t a b c d e f g Four = d
-    go t a b c d e f g Five = e
-    go t a b c d e f g Six = f
-    go t a b c d e f g Seven = g
+    let g = and_parts (t Seven) _ f.1 in
+    elim [ One ↦ a.0 | Two ↦ b.0 | Three ↦ c.0 | Four ↦ d.0 | Five ↦ e.0 | Six ↦ f.0 | Seven ↦ g.0 ]
 
-each_all : (t : KeyId → Bool) → ((k : KeyId) → t k ≡ true) → All t ≡ true
-each_all t h = and_from (t One) _ (h One) (and_from (t Two) _ (h Two) (and_from (t Three) _ (h Three) (and_from (t Four) _ (h Four) (and_from (t Five) _ (h Five) (and_from (t Six) _ (h Six) (h Seven))))))
+each_all : (t : KeyId → Bool) (ks : List KeyId) → ((k : KeyId) → t k ≡ true) → list_all t ks ≡ true
+each_all t [] h = refl
+each_all t (k ∷ ks) h = and_from (t k) _ (h k) (each_all t ks h)
 
 pub tests_decide : (ks : Keys) (b : Bool) → sending_test ks ks.sending ≡ true → b ≡ slots_test ks → Decides b (SoundKeys ks)
 tests_decide ks b sending is =
@@ -64,5 +55,5 @@ tests_decide ks b sending is =
       λ h.
           let each = all_each t (sym is ∙ h) in
           record { sending = sends ks ks.sending sending; waiting = λ k to e. waits ks k (slot_of ks.slots k) (each k) to e; apart = λ k. apart ks k (slot_of ks.slots k) (each k) },
-      λ h. is ∙ each_all t (λ k. passes ks k (slot_of ks.slots k) (h.waiting k) (h.apart k)),
+      λ h. is ∙ each_all t every_key (λ k. passes ks k (slot_of ks.slots k) (h.waiting k) (h.apart k)),
     )

@@ -1,5 +1,5 @@
 -- Every change of keys keeps the rules. Assumes nothing.
-use Rattle.std.proofs.Common.{◌≡◌, Bool, true, false, cond, not, IfOk, Some, None, Ok, Option, Result, sym, refl, ap, ◌∙◌, subst}
+use Rattle.std.proofs.Common.{◌≡◌, Bool, true, false, cond, not, IfOk, IfSome, Some, None, Ok, Option, Result, sym, refl, ap, ◌∙◌, subst}
 use Rattle.std.proofs.lemmas.Bool.{cond_both, cond-false, both_ways}
 use Rattle.refusal.specs.declared.Fault.{Fault}
 use Rattle.refusal.specs.Tests.{need}
@@ -13,7 +13,7 @@ use Rattle.keys.specs.declared.keys.Keys.{Keys}
 use Rattle.keys.specs.Ids.{same_key}
 use Rattle.keys.specs.Slots.{is_held, waits_for, left_for, freed, slot_of, each, no_keys, is_gone, kept_in}
 use Rattle.keys.specs.Changes.{holds, first_key, filled, sending_after, emptied, dropped, replaced_by, swapped, used}
-use Rattle.keys.specs.Rules.{SoundKeys, Leaves, RulesAreKept}
+use Rattle.keys.specs.Rules.{SoundKeys, RulesAreKept}
 use Rattle.keys.proofs.Views.{each_back, none_some, some_same, same_key_lem, same_self}
 
 -- the rules of slots that a function gives, and of a sending key
@@ -144,14 +144,14 @@ needed : {X : Type 0} (P : X → Type 0) (test : Bool) (e : Fault) (x : X) → (
 needed P true e x h = h refl
 needed P false e x h = tt
 
-drop_sound : (k : KeyId) (ks : Keys) → SoundKeys ks → Leaves SoundKeys (dropped k ks)
-drop_sound k ks h = cond_both (holds ks k) _ _ (Leaves SoundKeys) (λ _. emptied_sound (Key k) None ks (λ j e. absurd (none_some j e)) h) (λ _. tt)
+drop_sound : (k : KeyId) (ks : Keys) → SoundKeys ks → IfSome (dropped k ks) SoundKeys
+drop_sound k ks h = cond_both (holds ks k) _ _ (λ c. IfSome c SoundKeys) (λ _. emptied_sound (Key k) None ks (λ j e. absurd (none_some j e)) h) (λ _. tt)
 
-swap_sound : (new old : KeyId) (x : Keyset) (ks : Keys) → SoundKeys ks → IfOk (swapped new old x ks) (Leaves SoundKeys)
+swap_sound : (new old : KeyId) (x : Keyset) (ks : Keys) → SoundKeys ks → IfOk (swapped new old x ks) (λ c. IfSome c SoundKeys)
 swap_sound new old x ks h =
-    let P : Result _ Fault → Type 0 = λ r. IfOk r (Leaves SoundKeys) in
+    let P : Result _ Fault → Type 0 = λ r. IfOk r (λ c. IfSome c SoundKeys) in
     cond_both (holds ks old) _ _ P
-    (λ there. cond_both (same_key new old) _ _ P (λ _. plain new x ks h) (λ differ. needed (Leaves SoundKeys) (not (holds ks new)) _ _ (λ _. replaced_sound new old x ks h there differ)))
+    (λ there. cond_both (same_key new old) _ _ P (λ _. plain new x ks h) (λ differ. needed (λ c. IfSome c SoundKeys) (not (holds ks new)) _ _ (λ _. replaced_sound new old x ks h there differ)))
     (λ _. tt)
 
 used_sound : (k : KeyId) (ks : Keys) → SoundKeys ks → holds ks k ≡ true → SoundKeys (used k ks)

@@ -1,6 +1,8 @@
 -- A record of slots is a function of the Key ID. Assumes nothing.
-use Rattle.std.proofs.Common.{◌≡◌, ℕ, true, Some, None, Option, sym, refl, ap, ◌∙◌, arith}
-use Rattle.std.proofs.lemmas.Bool.{eqb-true, eq-eqb}
+use Rattle.std.proofs.Common.{◌≡◌, ℕ, true, Some, None, Option, sym, refl, ap, ◌∙◌, inl, inr, arith}
+use denote.Enum.Bare.{sameb, same_true, same_false}
+use Rattle.std.proofs.lemmas.Bool.{cases_Bool, eqb-true, eq-eqb, ne_eqb}
+use Rattle.keys.specs.contracts.id.KeyId.{the_type}
 use Rattle.keys.specs.declared.id.KeyId.{KeyId}
 use Rattle.keys.specs.declared.id.KeyId.TheVariants.{One, Two, Three, Four, Five, Six, Seven}
 use Rattle.keys.specs.declared.record.Slot.{Slot}
@@ -36,3 +38,10 @@ same_key_lem a b h = some_same a b (sym (number_back a) ∙ ap key_of (eqb-true 
 
 pub same_self : (k : KeyId) → same_key k k ≡ true
 same_self k = eq-eqb (key_number k) (key_number k) refl
+
+-- `==` of two Key IDs compares their numbers
+pub same_is : (a b : KeyId) → sameb the_type a b ≡ same_key a b
+same_is a b = elim (cases_Bool (sameb the_type a b)) [
+  | inl t ↦ t ∙ sym (eq-eqb (key_number a) (key_number b) (ap key_number (same_true the_type tt a b t)))
+  | inr f ↦ f ∙ sym (ne_eqb (key_number a) (key_number b) (λ e. same_false the_type a b f (same_key_lem a b (eq-eqb (key_number a) (key_number b) e))))
+]

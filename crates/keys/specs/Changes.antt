@@ -12,8 +12,6 @@ use Rattle.keys.specs.declared.record.Dropped.{Dropped}
 use Rattle.keys.specs.declared.record.Dropped.TheVariants.{Key, WaitingFor}
 use Rattle.keys.specs.declared.keys.Keys.{Keys}
 use Rattle.keys.specs.declared.keys.HeldKey.{HeldKey}
-use Rattle.keys.specs.declared.keys.Change.{Change}
-use Rattle.keys.specs.declared.keys.Change.TheVariants.{Done, Ignored}
 use Rattle.keys.specs.Ids.{same_key, key_of}
 use Rattle.keys.specs.Slots.{keyset_in, is_held, left_for, slot_of, no_keys, with_slot, is_gone, without}
 
@@ -67,8 +65,8 @@ emptied which instead ks = record {
   sending = sending_after (is_gone which ks.slots) instead ks.sending;
 }
 
-abbrev pub dropped : KeyId → Keys → Change Keys
-dropped k ks = cond (holds ks k) (Done (emptied (Key k) None ks)) Ignored
+abbrev pub dropped : KeyId → Keys → Option Keys
+dropped k ks = cond (holds ks k) (Some (emptied (Key k) None ks)) None
 
 -- the new key is filled in, and the old one leaves
 abbrev pub replaced_by : KeyId → KeyId → Keyset → Keys → Keys
@@ -77,12 +75,12 @@ replaced_by new old x ks = record {
   sending = ks.sending;
 }
 
-abbrev pub swapped : KeyId → KeyId → Keyset → Keys → Result (Change Keys) Fault
+abbrev pub swapped : KeyId → KeyId → Keyset → Keys → Result (Option Keys) Fault
 swapped new old x ks =
     cond (holds ks old)
-    (cond (same_key new old) (Ok (Done (filled new x ks)))
-    (need (not (holds ks new)) (fault_at KeyInUse 0) (Ok (Done (replaced_by new old x ks)))))
-    (Ok Ignored)
+    (cond (same_key new old) (Ok (Some (filled new x ks)))
+    (need (not (holds ks new)) (fault_at KeyInUse 0) (Ok (Some (replaced_by new old x ks)))))
+    (Ok None)
 
 -- a message was accepted under this key: those that waited for it are dropped, and it sends in their place
 abbrev pub used : KeyId → Keys → Keys

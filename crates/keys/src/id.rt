@@ -1,6 +1,10 @@
 // Key IDs: 1 to 7.
 ghost use Rattle.std.specs.Prelude.{◌≡◌, ◌≤◌};
-ghost use Rattle.keys.specs.Ids.{key_number, key_of, same_key};
+ghost use Rattle.std.specs.Option.{ok_or};
+ghost use Rattle.refusal.specs.Refusals.{range_error};
+ghost use Rattle.keys.specs.Ids.{key_number, key_of};
+
+use refusal::RangeError;
 
 #[derive(Clone, Copy, PartialEq, Eq, Debug)]
 pub enum KeyId {
@@ -14,32 +18,41 @@ pub enum KeyId {
 }
 
 impl KeyId {
+    pub const ALL: [KeyId; 7] = [
+        KeyId::One,
+        KeyId::Two,
+        KeyId::Three,
+        KeyId::Four,
+        KeyId::Five,
+        KeyId::Six,
+        KeyId::Seven,
+    ];
+
+    // By `as` and a name of its own: a `From` could not promise the bound.
     pub fn number(self) -> u8
         ensures value { result ≡ key_number self }
         ensures bound { (1 ≤ result) × (result ≤ 7) }
     {
         self as u8
     }
+}
 
-    // The Key ID of a number, if the number is one.
-    pub fn from_number(number: u64) -> Option<KeyId>
-        ensures { result ≡ key_of number }
-    {
+// A list of its own and no generic search: a trait with all values and their numbers would say each list again.
+impl TryFrom<u64> for KeyId {
+    type Error = RangeError;
+
+    ghost try_from_gives = { λ n r. r ≡ ok_or (key_of n) range_error };
+
+    fn try_from(number: u64) -> Result<KeyId, RangeError> {
         match number {
-            1 => Some(KeyId::One),
-            2 => Some(KeyId::Two),
-            3 => Some(KeyId::Three),
-            4 => Some(KeyId::Four),
-            5 => Some(KeyId::Five),
-            6 => Some(KeyId::Six),
-            7 => Some(KeyId::Seven),
-            _ => None,
+            1 => Ok(KeyId::One),
+            2 => Ok(KeyId::Two),
+            3 => Ok(KeyId::Three),
+            4 => Ok(KeyId::Four),
+            5 => Ok(KeyId::Five),
+            6 => Ok(KeyId::Six),
+            7 => Ok(KeyId::Seven),
+            _ => Err(RangeError),
         }
-    }
-
-    pub fn same(self, other: KeyId) -> bool
-        ensures { result ≡ same_key self other }
-    {
-        self.number() == other.number()
     }
 }

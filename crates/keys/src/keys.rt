@@ -1,6 +1,7 @@
 // What is done with a session's keys. Each change is answered as a value: where it refuses, nothing has changed.
 ghost use Rattle.std.specs.Prelude.{◌≡◌, Decides};
-ghost use Rattle.keys.specs.Changes.{holds, first_key, filled, given, chosen, emptied, dropped, replaced_by, swapped, used, held_key, receiving_key, sending_key};
+ghost use Rattle.refusal.specs.Refusals.{fault_at};
+ghost use Rattle.keys.specs.Changes.{holds, first_key, filled, given, chosen, emptied, dropped, replaced_by, swapped, used, held_key, held_or, receiving_key, sending_key};
 ghost use Rattle.keys.specs.Rules.{SoundKeys, slot_test, slots_test, sending_test};
 ghost use Rattle.keys.specs.Slots.{slot_of};
 
@@ -21,13 +22,6 @@ pub struct Keys {
 pub struct HeldKey {
     pub id: KeyId,
     pub keyset: Keyset,
-}
-
-// What a change that may come to nothing leaves.
-#[derive(Drop)]
-pub enum Change<T> {
-    Done(T),
-    Ignored,
 }
 
 impl Keys {
@@ -51,36 +45,32 @@ impl Keys {
     fn held(self, id: KeyId) -> Option<HeldKey>
         ensures { result ≡ held_key self id }
     {
-        match self.slots.slot(id).keyset() {
-            Some(keyset) => Some(HeldKey { id, keyset }),
-            None => None,
-        }
+        self.slots
+            .slot(id)
+            .keyset()
+            .map(|keyset| HeldKey { id, keyset })
+    }
+
+    // The key of a Key ID, if there is one and it is held.
+    fn held_or(self, id: Option<KeyId>, refusal: Refusal) -> Result<HeldKey, Fault>
+        ensures { result ≡ held_or (fault_at refusal 0) self id }
+    {
+        id.and_then(|id| self.held(id))
+            .ok_or(Fault::new(refusal, 0))
     }
 
     // The key that a message names by its number.
     pub fn receiving(self, number: u8) -> Result<HeldKey, Fault>
         ensures { result ≡ receiving_key number self }
     {
-        let Some(id) = KeyId::from_number(number as u64) else {
-            return Err(Fault::new(Refusal::KeyNotHeld, 0));
-        };
-        let Some(key) = self.held(id) else {
-            return Err(Fault::new(Refusal::KeyNotHeld, 0));
-        };
-        Ok(key)
+        self.held_or(KeyId::try_from(number as u64).ok(), Refusal::KeyNotHeld)
     }
 
     // The key that is sent with.
     pub fn sending(self) -> Result<HeldKey, Fault>
         ensures { result ≡ sending_key self }
     {
-        let Some(id) = self.sending else {
-            return Err(Fault::new(Refusal::NoSendingKey, 0));
-        };
-        let Some(key) = self.held(id) else {
-            return Err(Fault::new(Refusal::NoSendingKey, 0));
-        };
-        Ok(key)
+        self.held_or(self.sending, Refusal::NoSendingKey)
     }
 
     fn filled(self, id: KeyId, keyset: Keyset) -> Keys
@@ -88,11 +78,12 @@ impl Keys {
     {
         Keys {
             slots: self.slots.with_slot(id, Slot::Held(keyset)),
-            sending: self.sending,
+            ..self
         }
     }
 
-    // Fills an empty slot.
+    // Fills an empty slot. Key ID and keyset stay two parameters, here and where else a key is given: callers have them apart, and a
+    // `HeldKey` is one that is held.
     pub fn give(self, id: KeyId, keyset: Keyset) -> Result<Keys, Fault>
         ensures { result ≡ given id keyset self }
     {
@@ -127,14 +118,14 @@ impl Keys {
         }
     }
 
-    // Empties a slot. Keys that waited for it are then plainly held.
-    pub fn drop_key(self, id: KeyId) -> Change<Keys>
+    // Empties a slot. Keys that waited for it are then plainly held. None where the slot is empty already.
+    pub fn drop_key(self, id: KeyId) -> Option<Keys>
         ensures { result ≡ dropped id self }
     {
         if !self.holds(id) {
-            return Change::Ignored;
+            return None;
         }
-        Change::Done(self.emptied(Dropped::Key(id), None))
+        Some(self.emptied(Dropped::Key(id), None))
     }
 
     fn replaced_by(self, new: KeyId, old: KeyId, keyset: Keyset) -> Keys
@@ -146,24 +137,26 @@ impl Keys {
                 .slots
                 .with_slot(new, Slot::Held(keyset))
                 .with_slot(old, leaving),
-            sending: self.sending,
+            ..self
         }
     }
 
-    // Puts a new key in place of an old one, which leaves: it is held until a message comes under the new one.
-    pub fn swap(self, new: KeyId, old: KeyId, keyset: Keyset) -> Result<Change<Keys>, Fault>
+    // Puts a new key in place of an old one, which leaves: it is held until a message comes under the new one. None where the old
+    // one is not held.
+    #[tactic(auto, using(crate::proofs::Views::same_is))]
+    pub fn swap(self, new: KeyId, old: KeyId, keyset: Keyset) -> Result<Option<Keys>, Fault>
         ensures { result ≡ swapped new old keyset self }
     {
         if !self.holds(old) {
-            return Ok(Change::Ignored);
+            return Ok(None);
         }
-        if new.same(old) {
-            return Ok(Change::Done(self.filled(new, keyset)));
+        if new == old {
+            return Ok(Some(self.filled(new, keyset)));
         }
         if self.holds(new) {
             return Err(Fault::new(Refusal::KeyInUse, 0));
         }
-        Ok(Change::Done(self.replaced_by(new, old, keyset)))
+        Ok(Some(self.replaced_by(new, old, keyset)))
     }
 
     // After a message was accepted under a key: those that waited for it are dropped, and it is sent with in their place.
@@ -177,7 +170,7 @@ impl Keys {
         ensures { result ≡ slot_test self id (slot_of self.slots id) }
     {
         match self.slots.slot(id) {
-            Slot::Leaving(_, to) => !to.same(id) && self.holds(to),
+            Slot::Leaving(_, to) => to != id && self.holds(to),
             _ => true,
         }
     }
@@ -185,22 +178,13 @@ impl Keys {
     fn sending_is_sound(self) -> bool
         ensures { result ≡ sending_test self self.sending }
     {
-        match self.sending {
-            Some(id) => self.holds(id),
-            None => true,
-        }
+        self.sending.is_none_or(|id| self.holds(id))
     }
 
     fn slots_are_sound(self) -> bool
         ensures { result ≡ slots_test self }
     {
-        self.slot_is_sound(KeyId::One)
-            && self.slot_is_sound(KeyId::Two)
-            && self.slot_is_sound(KeyId::Three)
-            && self.slot_is_sound(KeyId::Four)
-            && self.slot_is_sound(KeyId::Five)
-            && self.slot_is_sound(KeyId::Six)
-            && self.slot_is_sound(KeyId::Seven)
+        KeyId::ALL.iter().all(|id| self.slot_is_sound(*id))
     }
 
     // Whether these keys keep the rules that the keys of every session keep.

@@ -5,7 +5,8 @@ ghost use Rattle.keys.specs.Slots.{keyset_in, waits_for, left_for, slot_of, with
 use crate::id::KeyId;
 use suite::Keyset;
 
-// What stands in a slot. A key that leaves is still held; it waits for the key that takes its place.
+// What stands in a slot. A key that leaves is still held; it waits for the key that takes its place. Neither `==` nor `Debug` is
+// derived, so that no keyset is compared or printed.
 #[derive(Clone, Copy)]
 pub enum Slot {
     Empty,
@@ -13,6 +14,7 @@ pub enum Slot {
     Leaving(Keyset, KeyId),
 }
 
+// Seven named slots and no array, so a `match` for each Key ID: a rule of this project.
 #[derive(Clone, Copy)]
 pub struct KeyRecord {
     pub key1: Slot,
@@ -24,8 +26,9 @@ pub struct KeyRecord {
     pub key7: Slot,
 }
 
-// Which keys are dropped: one, or all that wait for one.
-#[derive(Clone, Copy)]
+// Which keys are dropped: one, or all that wait for one. No closure, which would be no plainer: each contract would have to say what it
+// answers for every key.
+#[derive(Clone, Copy, PartialEq, Eq, Debug)]
 pub(crate) enum Dropped {
     Key(KeyId),
     WaitingFor(KeyId),
@@ -47,7 +50,7 @@ impl Slot {
         ensures { result ≡ waits_for id self }
     {
         match self {
-            Slot::Leaving(_, to) => to.same(id),
+            Slot::Leaving(_, to) => to == id,
             _ => false,
         }
     }
@@ -56,10 +59,8 @@ impl Slot {
     pub(crate) fn left_for(self, new: KeyId) -> Slot
         ensures { result ≡ left_for new self }
     {
-        match self.keyset() {
-            Some(keyset) => Slot::Leaving(keyset, new),
-            None => Slot::Empty,
-        }
+        self.keyset()
+            .map_or(Slot::Empty, |keyset| Slot::Leaving(keyset, new))
     }
 }
 
@@ -110,7 +111,7 @@ impl KeyRecord {
         ensures { result ≡ is_gone dropped self id }
     {
         match dropped {
-            Dropped::Key(key) => id.same(key),
+            Dropped::Key(key) => id == key,
             Dropped::WaitingFor(key) => self.slot(id).waits_for(key),
         }
     }

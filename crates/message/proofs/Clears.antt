@@ -1,11 +1,11 @@
 -- Deciphering in place. Assumes nothing.
-use Rattle.std.proofs.Common.{◌≡◌, ℕ, ◌+◌, ◌-◌, ◌≤◌, List, ◌++◌, length, take, drop, Ok, Err, Result, sym, ap, ◌∙◌, arith, length-append, length-take-le, drop-drop, take_at, drop_at}
+use Rattle.std.proofs.Common.{◌≡◌, ℕ, ◌+◌, ◌-◌, ◌≤◌, List, ◌++◌, length, take, drop, Ok, Err, Result, sym, ap, ◌∙◌, arith, length-take-le, drop-drop, take_at, drop_at}
 use borrow.Rule.Slice.PartMut.{put_mid}
 use Rattle.std.specs.List.{between}
 use Rattle.std.proofs.lemmas.List.{append-nil, drop_all, take-append-drop}
 use Rattle.std.proofs.lemmas.Slice.{between_to_end}
 use Rattle.suite.specs.Ciphers.{enciphered}
-use Rattle.suite.proofs.Ciphering.{enciphered-twice, length-enciphered}
+use Rattle.suite.proofs.Ciphering.{enciphered-twice}
 use Rattle.suite.specs.declared.Inputs.{Inputs}
 use Rattle.refusal.specs.declared.Fault.{Fault}
 use Rattle.wire.specs.declared.front.Front.{Front}
@@ -39,20 +39,15 @@ cleared-twice f to m h =
     let whole = take-append-drop to m in
     cc
 
-pub length-cleared : (f : ℕ → ℕ) (to : ℕ) (m : List ℕ) → length (cleared f to m) ≡ length m
-length-cleared f to m =
-    length-append (take to m) (enciphered f 0 (drop to m)) ∙ ap (λ k. length (take to m) + k) (length-enciphered f 0 (drop to m))
-    ∙ sym (length-append (take to m) (drop to m)) ∙ ap length (take-append-drop to m)
-
 -- a message that was deciphered and refused is enciphered again
 pub put_back : (stream : Keystream) (tag : Tag) (p : Protection) (f : Front) (inputs : Inputs) (w : Layout) (m clear after : List ℕ) (e : Fault) → f.to ≤ length m
     → inputs ≡ inputs_of p f.header → ◌≡◌ {A = Result Layout Fault} (Ok w) (located p.format f (length m)) → clear ≡ cleared (stream p.keys inputs) f.to m
     → ◌≡◌ {A = Result (Unit {0}) Fault} (Err e) (checked (tag p.keys inputs) w clear) → after ≡ cleared (stream p.keys inputs) f.to clear
-    → (◌≡◌ {A = Result Opened Fault} (Err e) (body_answer stream tag p f m)) × (after ≡ body_buffer stream tag p f m)
+    → after ≡ body_buffer stream tag p f m
 put_back stream tag p f inputs w m clear after e inside inputs_is w_is clear_is refused after_is =
     let i = inputs_of p f.header in
     let c : clear ≡ cleared (stream p.keys i) f.to m = cc in
     let r : checked (tag p.keys i) w (cleared (stream p.keys i) f.to m) ≡ Err e = cc in
     let no' : body_answer stream tag p f m ≡ Err e = rw (← w_is) (rw r) in
     let back : after ≡ m = after_is ∙ (let t = cleared-twice (stream p.keys i) f.to m inside in cc) in
-    (sym no', back ∙ ap (λ (r : Result Opened Fault). clear_if r (cleared (stream p.keys i) f.to m) m) (sym no'))
+    back ∙ ap (λ (r : Result Opened Fault). clear_if r (cleared (stream p.keys i) f.to m) m) (sym no')

@@ -3,6 +3,7 @@ use Rattle.std.specs.Prelude.{ℕ, ◌-◌, Bool, cond, ◌||◌, List, ◌++◌
 use Rattle.std.specs.List.{between}
 use Rattle.std.specs.Int.Digits.{number_from_digits}
 use Rattle.std.specs.Str.{bytes_eq}
+use Rattle.std.specs.Int.Bits.{bit_or, bit_xor}
 use Rattle.refusal.specs.declared.Fault.{Fault}
 use Rattle.refusal.specs.declared.Refusal.TheVariants.{TagDiffers, DataLengthDiffers, OutOfRange}
 use Rattle.refusal.specs.Refusals.{fault_at}
@@ -17,6 +18,10 @@ use Rattle.message.specs.declared.open.Opened.{Opened}
 use Rattle.framing.specs.Formats.{tag_octets, inputs_of}
 use Rattle.framing.specs.Layouts.{located}
 use Rattle.message.specs.Messages.{Keystream, Tag}
+
+-- the bits in which octets differ, gathered
+abbrev pub differing : ℕ → ℕ × ℕ → ℕ
+differing seen p = bit_or seen (bit_xor p.0 p.1)
 
 -- a message with what stands from a place on deciphered
 abbrev pub cleared : (ℕ → ℕ) → ℕ → List ℕ → List ℕ

@@ -1,18 +1,21 @@
 // A message opened in place: deciphered, tested, and put back where a test fails.
 ghost use Rattle.std.specs.Prelude.{◌≡◌, ◌+◌, ◌≤◌, length, IfOk};
 ghost use Rattle.std.specs.Str.{bytes_eq};
+ghost use Rattle.std.specs.List.{fold, zip};
 ghost use Rattle.framing.specs.Layouts.{Ordered};
-ghost use Rattle.message.specs.Opens.{cleared, tag_matches, length_matches, checked, body_answer, body_buffer, open_answer, open_buffer};
+ghost use Rattle.message.specs.Opens.{differing, cleared, tag_matches, length_matches, checked, body_answer, body_buffer, open_answer, open_buffer};
 ghost use Rattle.wire.specs.Fronts.{Within};
 
+use crate::cipher::Cipher;
 use framing::format::Protection;
 use framing::layout::Layout;
 use octets::read_number;
 use refusal::{Fault, Refusal};
-use suite::{Inputs, Keyset, Suite};
+use suite::Suite;
 use wire::front::{Front, Header, read_front};
 
-// What an accepted message says: its header, and where its content stands in clear.
+// What an accepted message says: its header, and where its content stands in clear. A place and no slice: the octets are in the buffer
+// that its caller lent, and there is no heap.
 #[derive(Clone, Copy, PartialEq, Eq, Debug)]
 pub struct Opened {
     pub header: Header,
@@ -20,62 +23,60 @@ pub struct Opened {
     pub length: usize,
 }
 
-// Whether two runs of octets are the same. Every octet is looked at, wherever they first differ.
+// The bits in which two runs of octets differ, gathered. Every octet is looked at, wherever they first differ.
+fn difference(a: &[u8], b: &[u8]) -> u8
+    ensures { result ≡ fold differing 0 (zip a.now b.now) }
+{
+    a.iter().zip(b).fold(0, |seen, (x, y)| seen | (*x ^ *y))
+}
+
+#[tactic(auto, using(crate::proofs::Compares::gathered))]
 fn same_octets(a: &[u8], b: &[u8]) -> bool
     requires { length a.now ≡ length b.now }
     ensures { result ≡ bytes_eq a.now b.now }
 {
-    let mut difference = 0u8;
-    for i in 0..a.len() {
-        difference |= a[i] ^ b[i];
+    difference(a, b) == 0
+}
+
+// A message in clear, and where its parts stand.
+#[derive(Drop)]
+struct Parts<'a> {
+    layout: Layout,
+    octets: &'a [u8],
+    ghost ordered: { Ordered layout (length octets.now) },
+}
+
+impl Parts<'_> {
+    fn tag_matches<C: Suite>(&self, cipher: &Cipher<'_, C>) -> bool
+        ensures { result ≡ tag_matches (C.tag_of cipher.now.suite.now cipher.now.keys cipher.now.inputs) self.now.layout self.now.octets.now }
+    {
+        let w = self.layout;
+        let tag = cipher
+            .suite
+            .tag(cipher.keys, cipher.inputs, &self.octets[w.from..w.tag]);
+        same_octets(&self.octets[w.tag..w.end], &tag[0..w.end - w.tag])
     }
-    difference == 0
-}
 
-// Deciphers what stands from `to` on, or enciphers it again.
-fn decipher<C: Suite>(suite: &C, keys: Keyset, inputs: Inputs, to: usize, message: &mut [u8])
-    requires { to ≤ length message.old }
-    ensures { message.new ≡ cleared (C.keystream suite.now keys inputs) to message.old }
-{
-    let n = message.len();
-    suite.encipher(keys, inputs, &mut message[to..n]);
-}
-
-fn tag_matches<C: Suite>(suite: &C, keys: Keyset, inputs: Inputs, w: Layout, message: &[u8]) -> bool
-    requires ordered { Ordered w (length message.now) }
-    ensures { result ≡ tag_matches (C.tag_of suite.now keys inputs) w message.now }
-{
-    let (from, tag_at, end) = (w.from, w.tag, w.end);
-    let tag = suite.tag(keys, inputs, &message[from..tag_at]);
-    same_octets(&message[tag_at..end], &tag[0..end - tag_at])
-}
-
-fn length_matches(w: Layout, message: &[u8]) -> bool
-    requires ordered { Ordered w (length message.now) }
-    ensures { result ≡ length_matches w message.now }
-{
-    let (to, content, tag_at) = (w.to, w.content, w.tag);
-    content - to == 0 || read_number(&message[to..content]) as usize == tag_at - content
-}
-
-// The two tests of a message in clear.
-fn check<C: Suite>(
-    suite: &C,
-    keys: Keyset,
-    inputs: Inputs,
-    w: Layout,
-    message: &[u8],
-) -> Result<(), Fault>
-    requires ordered { Ordered w (length message.now) }
-    ensures { result ≡ checked (C.tag_of suite.now keys inputs) w message.now }
-{
-    if !tag_matches(suite, keys, inputs, w, message) {
-        return Err(Fault::new(Refusal::TagDiffers, w.tag));
+    fn length_matches(&self) -> bool
+        ensures { result ≡ length_matches self.now.layout self.now.octets.now }
+    {
+        let w = self.layout;
+        w.content == w.to
+            || read_number(&self.octets[w.to..w.content]) as usize == w.tag - w.content
     }
-    if !length_matches(w, message) {
-        return Err(Fault::new(Refusal::DataLengthDiffers, w.to));
+
+    // The two tests of a message in clear.
+    fn check<C: Suite>(&self, cipher: &Cipher<'_, C>) -> Result<(), Fault>
+        ensures { result ≡ checked (C.tag_of cipher.now.suite.now cipher.now.keys cipher.now.inputs) self.now.layout self.now.octets.now }
+    {
+        if !self.tag_matches(cipher) {
+            return Err(Fault::new(Refusal::TagDiffers, self.layout.tag));
+        }
+        if !self.length_matches() {
+            return Err(Fault::new(Refusal::DataLengthDiffers, self.layout.to));
+        }
+        Ok(())
     }
-    Ok(())
 }
 
 // Opens a message whose front was read. A refused message is as it arrived.
@@ -91,17 +92,20 @@ pub fn open_body<C: Suite>(
     ensures inside { IfOk result (λ o. o.place + o.length ≤ length message.old) }
 {
     let w = protection.format.locate(front, message.len())?;
-    let (keys, inputs) = (protection.keys, protection.inputs(front.header));
-    let to = front.to;
-    decipher(suite, keys, inputs, to, message);
-    match check(suite, keys, inputs, w, message) {
+    let cipher = Cipher::new(suite, protection, front.header);
+    cipher.decipher(front.to, message);
+    let parts = Parts {
+        layout: w,
+        octets: message,
+    };
+    match parts.check(&cipher) {
         Ok(()) => Ok(Opened {
             header: front.header,
             place: w.content,
             length: w.tag - w.content,
         }),
         Err(fault) => {
-            decipher(suite, keys, inputs, front.to, message);
+            cipher.decipher(front.to, message);
             Err(fault)
         }
     }

@@ -8,11 +8,12 @@ ghost use Rattle.framing.specs.Layouts.{Laid, Ordered};
 ghost use Rattle.message.specs.Messages.{body_of, message};
 ghost use Rattle.message.specs.Seals.{has_content, in_range, seal_answer, seal_buffer};
 
+use crate::cipher::Cipher;
 use framing::format::{Format, Protection};
 use framing::layout::Layout;
 use octets::write_number;
 use refusal::{Fault, Refusal};
-use suite::{Inputs, Keyset, Suite};
+use suite::Suite;
 use wire::front::Header;
 use wire::parties::Plane;
 
@@ -36,6 +37,9 @@ fn in_range(tag_length: usize, format: Format, header: Header, len: usize) -> bo
         && has_content(header.plane, len)
 }
 
+// That `out` has room for a layout stands in three contracts here and in `cipher`: a struct that kept it would hold the lent buffer
+// and be lent again for each write.
+
 // Front, Data Length and content, in clear.
 fn write_clear(format: Format, header: Header, w: Layout, content: &[u8], out: &mut [u8])
     requires key { header.key < 8 }
@@ -43,22 +47,9 @@ fn write_clear(format: Format, header: Header, w: Layout, content: &[u8], out: &
     requires room { w.end ≤ length out.old }
     ensures { out.new ≡ (front header (counter_octets header.counter) ++ body_of (lead_of format header.plane) content.now) ++ drop w.tag out.old }
 {
-    let (to, content_at, tag_at) = (w.to, w.content, w.tag);
     header.write(out);
-    write_number(content.len() as u32, &mut out[to..content_at]);
-    out[content_at..tag_at].copy_from_slice(content);
-}
-
-// The tag behind the content, and all from `to` on enciphered.
-fn protect<C: Suite>(suite: &C, keys: Keyset, inputs: Inputs, w: Layout, out: &mut [u8])
-    requires ordered { Ordered w w.end }
-    requires room { w.end ≤ length out.old }
-    ensures { out.new ≡ take w.to out.old ++ (enciphered (C.keystream suite.now keys inputs) 0 (between w.to w.tag out.old ++ take (w.end - w.tag) (padded (C.tag_of suite.now keys inputs (between w.from w.tag out.old)))) ++ drop w.end out.old) }
-{
-    let (from, to, tag_at, end) = (w.from, w.to, w.tag, w.end);
-    let tag = suite.tag(keys, inputs, &out[from..tag_at]);
-    out[tag_at..end].copy_from_slice(&tag[0..end - tag_at]);
-    suite.encipher(keys, inputs, &mut out[to..end]);
+    write_number(content.len() as u32, &mut out[w.to..w.content]);
+    out[w.content..w.tag].copy_from_slice(content);
 }
 
 // Writes the whole message; what stands behind it stays.
@@ -76,10 +67,11 @@ pub fn write_message<C: Suite>(
     ensures { out.new ≡ message (C.keystream suite.now) (C.tag_of suite.now) protection header (counter_octets header.counter) content.now ++ drop w.end out.old }
 {
     write_clear(protection.format, header, w, content, out);
-    protect(suite, protection.keys, protection.inputs(header), w, out);
+    Cipher::new(suite, protection, header).protect(w, out);
 }
 
-// Seals content as one message at the start of `out`, and answers its length. A refusal leaves `out` as it was.
+// Seals content as one message at the start of `out`, and answers its length. A refusal leaves `out` as it was. Suite, protection and
+// header stay parameters, as their caller has them; within, a `Cipher` holds them.
 pub fn seal<C: Suite>(
     suite: &C,
     protection: Protection,

@@ -7,7 +7,7 @@ use Rattle.octets.specs.Octets.{octets}
 use Rattle.octets.proofs.Numbers.{octets_join, under_append, under_octets}
 use Rattle.aes.specs.declared.Block.{Block}
 use Rattle.aes.specs.Words.{block_octets}
-use Rattle.modes.specs.Cmac.{twice, doubled, zeros}
+use Rattle.modes.specs.Cmac.{twice, doubled}
 
 -- the two halves of a number of 128 bits, one behind the other
 pub halves : (y : ℕ) → octets 8 (y / 2 ^ 64) ++ octets 8 (y % 2 ^ 64) ≡ octets 16 y
@@ -38,10 +38,6 @@ pub high_fits : (n : ℕ) → n < 2 ^ 128 → bit_xor (n * 2 % 2 ^ 128) (n / 2 ^
 high_fits n h =
     let b : bit_xor (n * 2 % 2 ^ 128) (n / 2 ^ 127 * 0x87) < 2 ^ 128 = xor_lt 128 (n * 2 % 2 ^ 128) (n / 2 ^ 127 * 0x87) (omega arith) (omega arith) in
     omega arith
-
-pub zeros_are : block_octets (record { a = 0; b = 0; c = 0; d = 0 }) ≡ zeros
-unfolding block_octets
-zeros_are = refl
 
 -- a block has sixteen octets
 pub octets_whole : (b : Block) → (length (block_octets b) ≡ 16) × AllBelowBase 256 (block_octets b)

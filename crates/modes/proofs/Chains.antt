@@ -1,10 +1,9 @@
 -- The chain of CMAC, block by block. Assumes nothing.
-use Rattle.std.proofs.Common.{◌≡◌, ℕ, ◌+◌, ◌-◌, ◌*◌, ◌<◌, ◌≤◌, true, false, cond, eqb, List, map, length, take, drop, sym, refl, ap, ◌∙◌, inl, inr, add-one, arith, length-drop, take_all}
-use Rattle.std.specs.List.{range_with_len}
+use Rattle.std.proofs.Common.{◌≡◌, ℕ, ◌+◌, ◌-◌, ◌*◌, ◌<◌, ◌≤◌, true, false, cond, eqb, List, length, take, drop, sym, refl, ap, ◌∙◌, inl, inr, add-one, arith, length-drop, take_all}
 use Rattle.std.proofs.lemmas.Bool.Decides.{eqb_tells}
 use Rattle.aes.specs.Cipher.{xors}
 use Rattle.modes.specs.Cmac.{zeros, subkey1, subkey2, filled, last_block, chained, blocks_before, cmac_of}
-use Rattle.modes.specs.Texts.{octet_from}
+use Rattle.modes.specs.Texts.{octets_from}
 use Rattle.modes.proofs.Readings.{block_whole, block_filled}
 
 pub chained_none : (ciph : List ℕ → List ℕ) (m : List ℕ) → chained ciph m 0 ≡ zeros
@@ -12,7 +11,7 @@ unfolding chained
 chained_none ciph m = refl
 
 pub chained_more : (ciph : List ℕ → List ℕ) (text state block mixed state' : List ℕ) (i : ℕ) → 16 * i + 16 ≤ length text → state ≡ chained ciph text i
-    → block ≡ map (octet_from text (16 * i)) (range_with_len 0 16) → mixed ≡ xors state block → state' ≡ ciph mixed → state' ≡ chained ciph text (i + 1)
+    → block ≡ octets_from text (16 * i) 16 → mixed ≡ xors state block → state' ≡ ciph mixed → state' ≡ chained ciph text (i + 1)
 unfolding chained
 chained_more ciph text state block mixed state' i inside state_is block_is mixed_is next_is =
     let w = block_whole text (16 * i) inside in
@@ -22,7 +21,7 @@ chained_more ciph text state block mixed state' i inside state_is block_is mixed
 
 -- the last block
 last_is : (ciph : List ℕ → List ℕ) (text block key : List ℕ) (start : ℕ) → start ≤ length text → length text - start ≤ 16
-    → block ≡ map (octet_from text start) (range_with_len 0 16) → key ≡ cond (eqb (length text - start) 16) (subkey1 ciph) (subkey2 ciph)
+    → block ≡ octets_from text start 16 → key ≡ cond (eqb (length text - start) 16) (subkey1 ciph) (subkey2 ciph)
     → xors block key ≡ last_block ciph (drop start text)
 last_is ciph text block key start inside short block_is key_is =
     let n : length (drop start text) ≡ length text - start = length-drop start text in
@@ -42,7 +41,7 @@ last_is ciph text block key start inside short block_is key_is =
     ]
 
 pub cmac_is : (ciph : List ℕ → List ℕ) (text state block key last mixed tag : List ℕ) (before : ℕ) → before ≡ blocks_before (length text) → state ≡ chained ciph text before
-    → block ≡ map (octet_from text (16 * before)) (range_with_len 0 16) → key ≡ cond (eqb (length text - 16 * before) 16) (subkey1 ciph) (subkey2 ciph)
+    → block ≡ octets_from text (16 * before) 16 → key ≡ cond (eqb (length text - 16 * before) 16) (subkey1 ciph) (subkey2 ciph)
     → last ≡ xors block key → mixed ≡ xors state last → tag ≡ ciph mixed → tag ≡ cmac_of ciph text
 unfolding cmac_of
 cmac_is ciph text state block key last mixed tag before before_is state_is block_is key_is last_eq mixed_is tag_is =

@@ -1,7 +1,6 @@
 // A cipher of 16-octet blocks, and blocks as numbers and octets.
-ghost use Rattle.std.specs.Prelude.{◌≡◌, ℕ, List, ◌++◌};
+ghost use Rattle.std.specs.Prelude.{◌≡◌, ℕ, List};
 ghost use Rattle.std.specs.Int.Digits.{number_from_digits};
-ghost use Rattle.octets.specs.Octets.{octets};
 ghost use Rattle.aes.specs.Cipher.{cipher};
 ghost use Rattle.aes.specs.Words.{block_octets, words_of};
 ghost use Rattle.modes.specs.Cmac.{zeros};
@@ -25,6 +24,7 @@ impl BlockCipher for Schedule {
 }
 
 // The block of sixteen octets 00.
+#[tactic(auto, unfolding(aes::specs::Words::block_octets))]
 pub fn zero_block() -> Block
     ensures { block_octets result ≡ zeros }
 {
@@ -36,23 +36,12 @@ pub fn zero_block() -> Block
     }
 }
 
-// The number that the octets of a block write.
+// The number that the octets of a block write. No `From`: it would stand in `aes`, which knows blocks by their columns alone.
+#[tactic(auto, unfolding(aes::specs::Words::block_octets))]
 pub fn number_of(block: Block) -> u128
     ensures { result ≡ number_from_digits 256 (block_octets block) }
 {
-    let high = (block.a as u64) * 0x1_0000_0000 + block.b as u64;
-    let low = (block.c as u64) * 0x1_0000_0000 + block.d as u64;
-    (high as u128) * 0x1_0000_0000_0000_0000 + low as u128
-}
-
-// The block of eight octets of one number and eight of another.
-pub fn block_of(high: u64, low: u64) -> Block
-    ensures { block_octets result ≡ octets 8 high ++ octets 8 low }
-{
-    Block {
-        a: (high >> 32) as u32,
-        b: (high % 0x1_0000_0000) as u32,
-        c: (low >> 32) as u32,
-        d: (low % 0x1_0000_0000) as u32,
-    }
+    let high = (u64::from(block.a) << 32) + u64::from(block.b);
+    let low = (u64::from(block.c) << 32) + u64::from(block.d);
+    (u128::from(high) << 64) + u128::from(low)
 }

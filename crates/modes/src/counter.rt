@@ -1,27 +1,23 @@
 // Counter mode: a keystream combined with the caller's octets in place.
-ghost use Rattle.std.specs.Prelude.{◌≡◌, ◌-◌, ◌*◌, ◌/◌, ◌%◌, ◌^◌, ◌<◌};
+ghost use Rattle.std.specs.Prelude.{◌≡◌, ◌*◌, ◌≤◌, length};
 ghost use Rattle.suite.specs.Ciphers.{enciphered};
-ghost use Rattle.modes.specs.Counter.{counter_stream, Enciphers};
+ghost use Rattle.modes.specs.Counter.{counter_stream};
 
-use crate::block::{BlockCipher, block_of, number_of};
+use crate::block::{BlockCipher, number_of};
+use aes::Block;
 
-// The octet at a place of a block that is given as a number.
-fn octet_of(number: u128, place: usize) -> u8
-    requires { place < 16 }
-    ensures { result ≡ number / 2 ^ (8 * (15 - place)) % 256 }
+// The octets of a block.
+const BLOCK: usize = 16;
+
+// Enciphers block `i` of a part, of which the last may be shorter.
+fn encipher_block<C: BlockCipher>(cipher: &C, start: u64, i: u64, block: &mut [u8])
+    requires { length block.old ≤ 16 }
+    ensures { block.new ≡ enciphered (counter_stream (C.ciph cipher.now) start) (16 * i) block.old }
 {
-    ((number >> (8 * (15 - place))) % 256) as u8
-}
-
-// The enciphered counter block for a place, which is the one before but at the first place of a block.
-fn block_for<C: BlockCipher>(cipher: &C, start: u64, place: usize, before: u128) -> u128
-    requires kept { 0 < place % 16 → Enciphers (C.ciph cipher.now) start (place / 16) before }
-    ensures { Enciphers (C.ciph cipher.now) start (place / 16) result }
-{
-    if place % 16 == 0 {
-        number_of(cipher.encrypt(block_of(start, (place / 16) as u64)))
-    } else {
-        before
+    let keystream = number_of(cipher.encrypt(Block::of_halves(start, i))).to_be_bytes();
+    // No `zip` with the keystream: tried, and nothing is then known of what is written.
+    for (place, x) in block.iter_mut().enumerate() {
+        *x ^= keystream[place];
     }
 }
 
@@ -29,9 +25,10 @@ fn block_for<C: BlockCipher>(cipher: &C, start: u64, place: usize, before: u128)
 pub fn encipher<C: BlockCipher>(cipher: &C, start: u64, part: &mut [u8])
     ensures { part.new ≡ enciphered (counter_stream (C.ciph cipher.now) start) 0 part.old }
 {
-    let mut keystream = 0u128;
-    for i in 0..part.len() {
-        keystream = block_for(cipher, start, i, keystream);
-        part[i] ^= octet_of(keystream, i % 16);
+    // No `chunks_mut`: tried, and nothing is then known of what is written.
+    for i in 0..part.len().div_ceil(BLOCK) {
+        let from = BLOCK * i;
+        let to = part.len().min(from + BLOCK);
+        encipher_block(cipher, start, i as u64, &mut part[from..to]);
     }
 }

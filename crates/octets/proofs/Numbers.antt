@@ -1,10 +1,12 @@
 -- Numbers and their octets, at every width. Assumes nothing.
-use Rattle.std.proofs.Common.{◌≡◌, ℕ, zero, suc, ◌+◌, ◌-◌, ◌*◌, ◌/◌, ◌%◌, ◌^◌, ◌<◌, ◌≤◌, ◌⊎◌, List, [], ◌∷◌, ◌++◌, length, get_or, sym, refl, ap, ◌∙◌, subst, inl, inr, mul_assoc, arith, pow_mono, pow-add, shr-shr}
+use Rattle.std.proofs.Common.{◌≡◌, ℕ, zero, suc, ◌+◌, ◌-◌, ◌*◌, ◌/◌, ◌%◌, ◌^◌, ◌<◌, ◌≤◌, ◌⊎◌, List, [], ◌∷◌, ◌++◌, length, take, drop, sym, refl, ap, ◌∙◌, subst, inl, inr, mul_assoc, arith, take_all, pow_mono, pow-add}
+use Rattle.std.proofs.Math.Nat.{div-div-eq-div-mul, pow-succ'}
+use Rattle.std.specs.Int.{byte_at, bytes_high_first}
 use Rattle.std.specs.Int.Digits.{number_from_digits, number_from_digits_after, AllBelowBase}
 use Rattle.std.proofs.lemmas.Nat.{div-add-mod', shr_below}
 use Rattle.std.proofs.lemmas.Int.Digits.{number_push}
 use Rattle.std.proofs.ByRecursion.{All-append}
-use Rattle.std.proofs.lemmas.List.{append_assoc, append-nil, get_or_append_left, get_or_at, length_push}
+use Rattle.std.proofs.lemmas.List.{append_assoc, append-nil, length_push}
 use Rattle.std.proofs.lemmas.Bool.{cases_lt}
 use Rattle.std.proofs.lemmas.Bool.Decides.{leb_tells}
 use Rattle.octets.specs.Octets.{octets, widest, Fewest, width_of}
@@ -39,21 +41,34 @@ octets_after k a (x ∷ xs) h =
 pub octets_number : (xs : List ℕ) → AllBelowBase 256 xs → octets (length xs) (number_from_digits 256 xs) ≡ xs
 octets_number xs h = let r = octets_after 0 0 xs h in let z : length xs + 0 ≡ length xs = omega arith in cc
 
--- the octet at a place
-pub get_or-octets : (n c i : ℕ) → i < n → get_or (octets n c) i 0 ≡ c / 2 ^ (8 * (n - 1 - i)) % 256
-get_or-octets zero c i h = omega arith
-get_or-octets (suc n) c i h =
-    let l = length-octets n (c / 256) in
-    elim (cases_lt i n) [
-      | inl b ↦
-          let s : 8 + 8 * (n - 1 - i) ≡ 8 * (suc n - 1 - i) = omega arith in
-          get_or_append_left (octets n (c / 256)) (c % 256 ∷ []) 0 i (omega arith) ∙ get_or-octets n (c / 256) i b
-          ∙ ap (λ k. k % 256) (shr-shr c 8 (8 * (n - 1 - i)) ∙ ap (λ k. c / 2 ^ k) s)
-      | inr b ↦
-          let z : 8 * (suc n - 1 - i) ≡ 0 = omega arith in
-          let w : length (octets n (c / 256)) ≡ i = omega arith in
-          get_or_at (octets n (c / 256)) (c % 256) [] 0 i w ∙ rw z (omega arith)
-    ]
+-- the octet in front of the others
+byte_over : (n c : ℕ) → byte_at n (c / 256) ≡ byte_at (suc n) c
+byte_over zero c = refl
+byte_over (suc n) c = ap (λ k. k % 256) (div-div-eq-div-mul c 256 (256 ^ suc n) ∙ ap (λ k. c / k) (sym (pow-succ' 256 (suc n))))
+
+octets_first : (n c : ℕ) → octets (suc n) c ≡ byte_at n c ∷ octets n c
+octets_first zero c = refl
+octets_first (suc n) c =
+    ap (λ (l : List ℕ). l ++ (c % 256 ∷ [])) (octets_first n (c / 256)) ∙ ap (λ x. x ∷ octets (suc n) c) (byte_over n c)
+
+-- std's octets of a number, the most significant first
+pub octets_std : (n c : ℕ) → bytes_high_first n c ≡ octets n c
+octets_std zero c = refl
+octets_std (suc n) c = ap (λ (l : List ℕ). byte_at n c ∷ l) (octets_std n c) ∙ sym (octets_first n c)
+
+-- the last octets of a number's octets
+octets_last : (m n c : ℕ) → drop m (octets (m + n) c) ≡ octets n c
+octets_last zero n c = let z : 0 + n ≡ n = omega arith in ap (λ k. octets k c) z
+octets_last (suc m) n c =
+    let s : suc m + n ≡ suc (m + n) = omega arith in
+    ap (λ k. drop (suc m) (octets k c)) s ∙ ap (drop (suc m)) (octets_first (m + n) c) ∙ octets_last m n c
+
+pub last_of : (w n c : ℕ) → n ≤ w → take (w - (w - n)) (drop (w - n) (octets w c)) ≡ octets n c
+last_of w n c h =
+    let s : w - n + n ≡ w = omega arith in
+    let l : length (octets n c) ≡ n = length-octets n c in
+    let d : drop (w - n) (octets w c) ≡ octets n c = ap (λ k. drop (w - n) (octets k c)) (sym s) ∙ octets_last (w - n) n c in
+    ap (take (w - (w - n))) d ∙ take_all (w - (w - n)) (octets n c) (omega arith)
 
 -- what n octets cannot hold wants more than n
 pub more_than : (n c k : ℕ) → 2 ^ (8 * n) ≤ c → c < 2 ^ (8 * k) → n < k
@@ -84,10 +99,6 @@ under_append xs ys = All-append (λ d. d < 256) xs ys
 pub under_octets : (n c : ℕ) → AllBelowBase 256 (octets n c)
 under_octets zero c = tt
 under_octets (suc n) c = under_append (octets n (c / 256)) (c % 256 ∷ []) (under_octets n (c / 256)) (omega arith, tt)
-
--- the octet at a place of octets, from the number that they write
-pub octet_at : (xs : List ℕ) (i : ℕ) → AllBelowBase 256 xs → i < length xs → get_or xs i 0 ≡ number_from_digits 256 xs / 2 ^ (8 * (length xs - 1 - i)) % 256
-octet_at xs i u h = ap (λ (l : List ℕ). get_or l i 0) (sym (octets_number xs u)) ∙ get_or-octets (length xs) (number_from_digits 256 xs) i h
 
 pub width_fewest : (c : ℕ) → c < 2 ^ 32 → Fewest c (width_of c)
 width_fewest c h = elim (leb_tells (suc c) (2 ^ 8)) [

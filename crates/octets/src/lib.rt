@@ -22,23 +22,13 @@ pub fn width(c: u32) -> usize
     }
 }
 
-// The octet of a number that `behind` more octets follow.
-fn octet(c: u32, behind: usize) -> u8
-    requires { behind < widest }
-    ensures { result ≡ c / 2 ^ (8 * behind) % 256 }
-{
-    ((c >> (8 * behind)) % 256) as u8
-}
-
 // Fills `out` with the last octets of a number.
 pub fn write_number(c: u32, out: &mut [u8])
     requires { length out.old ≤ widest }
     ensures { out.new ≡ octets (length out.old) c }
 {
-    let n = out.len();
-    for i in 0..n {
-        out[i] = octet(c, n - 1 - i);
-    }
+    let all = c.to_be_bytes();
+    out.copy_from_slice(&all[all.len() - out.len()..]);
 }
 
 // The number that some octets write, at most four; the first of them may be 0.

@@ -7,9 +7,6 @@ pub need_held : {X : Type 0} (test : Bool) (e : Fault) (rest : Result X Fault) (
 need_held true e rest x h = (refl, h)
 need_held false e rest x h = let z : ◌≡◌ {A = ℕ} 0 1 = cc in absurd (omega arith)
 
-pub need-holds : {X : Type 0} (test : Bool) (e : Fault) (rest : Result X Fault) → test ≡ true → need test e rest ≡ rest
-need-holds test e rest h = rw h
-
 pub and_then_went : {X Y : Type 0} (r : Result X Fault) (rest : X → Result Y Fault) (y : Y) → and_then r rest ≡ Ok y → (x : X) × (r ≡ Ok x) × (rest x ≡ Ok y)
 and_then_went (Ok x) rest y h = (x, refl, h)
 and_then_went (Err e) rest y h = let z : ◌≡◌ {A = ℕ} 0 1 = cc in absurd (omega arith)

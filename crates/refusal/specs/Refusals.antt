@@ -5,6 +5,7 @@ use Rattle.refusal.specs.declared.Refusal.TheVariants.{MessageTooLong, EndsInHea
 use Rattle.refusal.specs.declared.Layer.{Layer}
 use Rattle.refusal.specs.declared.Layer.TheVariants.{Wire, Table, Keys, Counters, Suite, Call}
 use Rattle.refusal.specs.declared.Fault.{Fault}
+use Rattle.refusal.specs.declared.RangeError.{RangeError}
 
 abbrev pub number_of : Refusal → ℕ
 number_of MessageTooLong = 1
@@ -53,3 +54,7 @@ layer_name Call = codes "call"
 -- the fault of a refusal at a place carries the refusal's own layer
 abbrev pub fault_at : Refusal → ℕ → Fault
 fault_at r place = record { refusal = r; layer = layer_of (number_of r); place = place }
+
+-- what a conversion answers to what stands for no value
+abbrev pub range_error : RangeError
+range_error = record {}

@@ -2,6 +2,7 @@
 #![tactic(auto)]
 
 ghost use Rattle.std.specs.Prelude.{◌≡◌, ◌≤◌, ◌++◌, Some, codes, decimal};
+ghost use Rattle.refusal.specs.declared.Refusal.TheVariants.{OutOfRange};
 ghost use Rattle.refusal.specs.Refusals.{number_of, layer_of, layer_name, fault_at};
 
 use std::fmt;
@@ -43,7 +44,7 @@ pub enum Layer {
     Call,
 }
 
-// The layer of refusal n stands at n - 1.
+// The layer of refusal n stands at n - 1. A rule of this project wants a constant table here.
 const LAYERS: [Layer; 21] = [
     Layer::Wire,
     Layer::Wire,
@@ -69,6 +70,7 @@ const LAYERS: [Layer; 21] = [
 ];
 
 impl Refusal {
+    // By `as` and a name of its own: a `From` could not promise the bound.
     pub fn number(self) -> u8
         ensures value { result ≡ number_of self }
         ensures bound { (1 ≤ result) × (result ≤ 21) }
@@ -84,6 +86,7 @@ impl Refusal {
 }
 
 impl Layer {
+    // The name as text, which `Display` does not lend.
     pub fn name(self) -> &'static str
         ensures { result.now ≡ layer_name self }
     {
@@ -135,5 +138,17 @@ impl fmt::Display for Fault {
         let layer = self.layer;
         let place = self.place;
         write!(f, "{number} {layer} at {place}")
+    }
+}
+
+// What was given stands for no value of the type that was asked for.
+#[derive(Clone, Copy, PartialEq, Eq, Debug)]
+pub struct RangeError;
+
+impl From<RangeError> for Fault {
+    ghost from_gives = { λ _ f. f ≡ fault_at OutOfRange 0 };
+
+    fn from(_error: RangeError) -> Fault {
+        Fault::new(Refusal::OutOfRange, 0)
     }
 }

@@ -1,3 +1,2 @@
 pub mod Numerals
-pub mod Spelling
-pub mod Splitting
+pub mod Cutting

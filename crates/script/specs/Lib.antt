@@ -1,5 +1,6 @@
 pub mod Asked
 pub mod Digits
+pub mod Lines
 pub mod Pieces
 pub mod Requests
 pub mod Words

@@ -2,7 +2,7 @@
 #![tactic(auto)]
 
 mod digits;
+mod fields;
 pub mod lines;
-mod pieces;
 pub mod request;
 pub mod words;

@@ -2,15 +2,15 @@
 ghost use Rattle.std.specs.Prelude.{◌≡◌};
 ghost use Rattle.script.specs.Words.{side_of, verb_of, field_count};
 
-// The end that a line speaks to: the logger is written U, the service H.
-#[derive(Clone, Copy)]
+// The end that a line speaks to: the logger is written U, the service H. No `Role`: this crate stands on no other.
+#[derive(Clone, Copy, PartialEq, Eq, Debug)]
 pub enum Side {
     Logger,
     Service,
 }
 
 // What a line asks for.
-#[derive(Clone, Copy)]
+#[derive(Clone, Copy, PartialEq, Eq, Debug)]
 pub enum Verb {
     Begin,
     Give,
@@ -23,38 +23,13 @@ pub enum Verb {
     Hear,
 }
 
-fn side_named(name: &str) -> Option<Side>
-    ensures { result ≡ side_of name.now }
-{
-    match name {
-        "U" => Some(Side::Logger),
-        "H" => Some(Side::Service),
-        _ => None,
-    }
-}
-
+// An `Option` and no `TryFrom`, here and below: a word that is none makes a bad line, which is no error.
 pub fn side_of(word: &[u8]) -> Option<Side>
     ensures { result ≡ side_of word.now }
 {
-    let Ok(name) = std::str::from_utf8(word) else {
-        return None;
-    };
-    side_named(name)
-}
-
-fn verb_named(name: &str) -> Option<Verb>
-    ensures { result ≡ verb_of name.now }
-{
-    match name {
-        "begin" => Some(Verb::Begin),
-        "give" => Some(Verb::Give),
-        "choose" => Some(Verb::Choose),
-        "drop" => Some(Verb::Drop),
-        "data" => Some(Verb::Data),
-        "command" => Some(Verb::Command),
-        "report" => Some(Verb::Report),
-        "end" => Some(Verb::End),
-        "hear" => Some(Verb::Hear),
+    match word {
+        b"U" => Some(Side::Logger),
+        b"H" => Some(Side::Service),
         _ => None,
     }
 }
@@ -62,10 +37,18 @@ fn verb_named(name: &str) -> Option<Verb>
 pub fn verb_of(word: &[u8]) -> Option<Verb>
     ensures { result ≡ verb_of word.now }
 {
-    let Ok(name) = std::str::from_utf8(word) else {
-        return None;
-    };
-    verb_named(name)
+    match word {
+        b"begin" => Some(Verb::Begin),
+        b"give" => Some(Verb::Give),
+        b"choose" => Some(Verb::Choose),
+        b"drop" => Some(Verb::Drop),
+        b"data" => Some(Verb::Data),
+        b"command" => Some(Verb::Command),
+        b"report" => Some(Verb::Report),
+        b"end" => Some(Verb::End),
+        b"hear" => Some(Verb::Hear),
+        _ => None,
+    }
 }
 
 impl Verb {

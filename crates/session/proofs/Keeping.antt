@@ -1,5 +1,5 @@
 -- Every change of a session keeps the rules. Assumes nothing.
-use Rattle.std.proofs.Common.{◌≡◌, ℕ, ◌+◌, ◌<◌, ◌≤◌, true, ltb, IfOk, Ok, Err, Result, refl, ap, ◌∙◌, subst, arith}
+use Rattle.std.proofs.Common.{◌≡◌, ℕ, ◌+◌, ◌<◌, ◌≤◌, true, ltb, IfOk, IfSome, Some, None, Ok, Err, Option, Result, refl, ap, ◌∙◌, subst, arith}
 use Rattle.std.proofs.lemmas.Bool.{ltb-true}
 use Rattle.refusal.specs.declared.Fault.{Fault}
 use Rattle.refusal.specs.Tests.{and_then}
@@ -10,10 +10,8 @@ use Rattle.wire.specs.declared.parties.Plane.TheVariants.{Control, User}
 use Rattle.keys.specs.declared.id.KeyId.{KeyId}
 use Rattle.keys.specs.declared.keys.Keys.{Keys}
 use Rattle.keys.specs.declared.keys.HeldKey.{HeldKey}
-use Rattle.keys.specs.declared.keys.Change.{Change}
-use Rattle.keys.specs.declared.keys.Change.TheVariants.{Done, Ignored}
 use Rattle.keys.specs.Changes as keys
-use Rattle.keys.specs.Rules.{SoundKeys, Leaves}
+use Rattle.keys.specs.Rules.{SoundKeys}
 use Rattle.keys.proofs.Keeping as keeping
 use Rattle.keys.proofs.Held.{received_held}
 use Rattle.session.specs.declared.counters.Counters.{Counters}
@@ -36,11 +34,11 @@ then_keys : (s : Session) (r : Result Keys Fault) → Sound s → IfOk r SoundKe
 then_keys s (Ok ks) h k = with_keys_lem s ks h k
 then_keys s (Err e) h k = tt
 
-change_keys : (s : Session) (c : Change Keys) → Sound s → Leaves SoundKeys c → Leaves Sound (changed s c)
-change_keys s (Done ks) h k = with_keys_lem s ks h k
-change_keys s Ignored h k = tt
+change_keys : (s : Session) (c : Option Keys) → Sound s → IfSome c SoundKeys → IfSome (changed s c) Sound
+change_keys s (Some ks) h k = with_keys_lem s ks h k
+change_keys s None h k = tt
 
-then_change : (s : Session) (r : Result (Change Keys) Fault) → Sound s → IfOk r (Leaves SoundKeys) → IfOk (and_then r (λ c. Ok (changed s c))) (Leaves Sound)
+then_change : (s : Session) (r : Result (Option Keys) Fault) → Sound s → IfOk r (λ c. IfSome c SoundKeys) → IfOk (and_then r (λ c. Ok (changed s c))) (λ c. IfSome c Sound)
 then_change s (Ok c) h k = change_keys s c h k
 then_change s (Err e) h k = tt
 

@@ -1,10 +1,10 @@
 -- What every session keeps. Assumes nothing.
-use Rattle.std.specs.Prelude.{◌≡◌, ℕ, ◌+◌, ◌≤◌, Bool, ◌&&◌, IfOk, Ok, nat_le}
+use Rattle.std.specs.Prelude.{◌≡◌, ℕ, ◌+◌, ◌≤◌, Bool, ◌&&◌, IfOk, IfSome, Ok, nat_le}
 use Rattle.suite.specs.declared.Keyset.{Keyset}
 use Rattle.wire.specs.declared.parties.Plane.{Plane}
 use Rattle.keys.specs.declared.id.KeyId.{KeyId}
 use Rattle.keys.specs.declared.keys.HeldKey.{HeldKey}
-use Rattle.keys.specs.Rules.{SoundKeys, Leaves}
+use Rattle.keys.specs.Rules.{SoundKeys}
 use Rattle.session.specs.declared.session.Settings.{Settings}
 use Rattle.session.specs.declared.session.Session.{Session}
 use Rattle.session.specs.Counting.{last_counter}
@@ -29,8 +29,8 @@ pub record RulesAreKept : Type 0 where
   pub new : (settings : Settings) (k : KeyId) (x : Keyset) → 1 ≤ settings.leap → Sound (new_session settings k x)
   pub give : (k : KeyId) (x : Keyset) (s : Session) → Sound s → IfOk (given k x s) Sound
   pub choose : (k : KeyId) (s : Session) → Sound s → IfOk (chosen k s) Sound
-  pub drop : (k : KeyId) (s : Session) → Sound s → Leaves Sound (dropped k s)
-  pub swap : (new old : KeyId) (x : Keyset) (s : Session) → Sound s → IfOk (swapped new old x s) (Leaves Sound)
+  pub drop : (k : KeyId) (s : Session) → Sound s → IfSome (dropped k s) Sound
+  pub swap : (new old : KeyId) (x : Keyset) (s : Session) → Sound s → IfOk (swapped new old x s) (λ c. IfSome c Sound)
   pub accept : (s : Session) (plane : Plane) (key n : ℕ) → Sound s → After s plane key n Sound
   pub count : (s : Session) (plane : Plane) (key n : ℕ) → n ≤ last_counter → Sound s → After s plane key n (λ t. (counters_of t plane).accepted ≡ (counters_of s plane).accepted + 1)
   pub seal : (s : Session) (plane : Plane) (n : ℕ) → Sound s → Sound (sealed s plane n)

@@ -28,6 +28,7 @@ impl Counters {
         accepted: 0,
     };
 
+    // The constant again, with a contract; the constant alone can stand in other constants.
     pub fn new() -> Counters
         ensures { result ≡ new_counters }
     {
@@ -52,9 +53,9 @@ impl Counters {
         ensures { result ≡ counted self counter }
     {
         Counters {
-            last_sealed: self.last_sealed,
             last_accepted: counter,
             accepted: self.accepted.saturating_add(1),
+            ..self
         }
     }
 
@@ -74,8 +75,7 @@ impl Counters {
     {
         Counters {
             last_sealed: counter,
-            last_accepted: self.last_accepted,
-            accepted: self.accepted,
+            ..self
         }
     }
 

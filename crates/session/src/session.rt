@@ -1,12 +1,12 @@
 // A session and its changes, each answered as a value: where one refuses, nothing has changed.
 ghost use Rattle.std.specs.Prelude.{◌≡◌, Decides};
-ghost use Rattle.session.specs.Sessions.{new_session, counters_of, with_counters, with_keys, changed, given, chosen, dropped, swapped, admission, accepted, outgoing, sealed};
+ghost use Rattle.session.specs.Sessions.{protection_by, new_session, counters_of, with_counters, with_keys, changed, given, chosen, dropped, swapped, admission, accepted, outgoing, sealed};
 ghost use Rattle.session.specs.Rules.{Sound, counts_test};
 
 use crate::counters::Counters;
-use framing::format::Format;
+use framing::format::{Format, Protection};
 use keys::id::KeyId;
-use keys::keys::{Change, HeldKey, Keys};
+use keys::keys::{HeldKey, Keys};
 use refusal::Fault;
 use suite::Keyset;
 use wire::parties::{Plane, Role};
@@ -35,6 +35,19 @@ pub struct Session {
 pub struct Outgoing {
     pub key: HeldKey,
     pub counter: u32,
+}
+
+impl Settings {
+    // How a message from this sender is protected, under these keys.
+    pub fn protection(self, sender: Role, keys: Keyset) -> Protection
+        ensures { result ≡ protection_by self sender keys }
+    {
+        Protection {
+            keys,
+            sender,
+            format: self.format,
+        }
+    }
 }
 
 impl Session {
@@ -80,13 +93,10 @@ impl Session {
         Session { keys, ..self }
     }
 
-    fn changed(self, change: Change<Keys>) -> Change<Session>
+    fn changed(self, change: Option<Keys>) -> Option<Session>
         ensures { result ≡ changed self change }
     {
-        match change {
-            Change::Done(keys) => Change::Done(self.with_keys(keys)),
-            Change::Ignored => Change::Ignored,
-        }
+        change.map(|keys| self.with_keys(keys))
     }
 
     // Fills an empty slot.
@@ -105,22 +115,23 @@ impl Session {
         Ok(self.with_keys(keys))
     }
 
-    // Empties a slot.
-    pub fn drop_key(self, id: KeyId) -> Change<Session>
+    // Empties a slot. None where it is empty already.
+    pub fn drop_key(self, id: KeyId) -> Option<Session>
         ensures { result ≡ dropped id self }
     {
         self.changed(self.keys.drop_key(id))
     }
 
-    // Puts a new key in place of an old one, which stays until a message comes under the new one.
-    pub fn swap(self, new: KeyId, old: KeyId, keyset: Keyset) -> Result<Change<Session>, Fault>
+    // Puts a new key in place of an old one, which stays until a message comes under the new one. None where the old one is not held.
+    pub fn swap(self, new: KeyId, old: KeyId, keyset: Keyset) -> Result<Option<Session>, Fault>
         ensures { result ≡ swapped new old keyset self }
     {
         let change = self.keys.swap(new, old, keyset)?;
         Ok(self.changed(change))
     }
 
-    // The key of a message that arrived, if the key is held and the counter may be accepted.
+    // The key of a message that arrived, if the key is held and the counter may be accepted. No `Header`, here and after: a session knows
+    // nothing of its ID, and once a key is found it is no number any more.
     pub fn admit(self, plane: Plane, key: u8, counter: u32) -> Result<HeldKey, Fault>
         ensures { result ≡ admission self plane key counter }
     {

@@ -29,7 +29,10 @@ pub trait SessionStore {
     fn name(&self, n: usize) -> Option<SessionId>
         ensures { result ≡ name_at (pairs self.now) n };
 
-    // Inserts a pair at a position of the store's own.
+    // That the room stays, each call says of itself: it ties two moments, so no invariant of a store could.
+
+    // Inserts a pair at a position of the store's own. ID and session stay two parameters: a session does not know its ID, and callers have
+    // the two apart.
     fn add(&mut self, id: SessionId, session: Session) -> Result<(), Fault>
         ensures room { capacity self.new ≡ capacity self.old }
         ensures value { result ≡ add_answer (pairs self.old) (capacity self.old) id }

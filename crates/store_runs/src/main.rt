@@ -14,6 +14,12 @@ use suite::Keyset;
 use wire::id::SessionId;
 use wire::parties::Role;
 
+// The number of an argument; 0 if it is none.
+fn number_of(word: Option<String>) -> u32 {
+    word.and_then(|word| word.as_str().parse::<u32>().ok())
+        .unwrap_or(0)
+}
+
 fn session() -> Session {
     let settings = Settings {
         role: Role::Service,
@@ -34,7 +40,7 @@ fn session() -> Session {
 
 // Adds the sessions 1 to `count`, and looks the last one up `times` times. The answer depends on every look.
 fn look_up<S: SessionStore>(store: &mut S, count: u32, times: u32) -> u32 {
-    for number in 1..count.saturating_add(1) {
+    for number in 1..=count {
         let _ = store.add(SessionId { number }, session());
     }
     let mut leaps = 0u32;
@@ -47,15 +53,9 @@ fn look_up<S: SessionStore>(store: &mut S, count: u32, times: u32) -> u32 {
 }
 
 fn main(rt: HostRuntime) -> io::Result<()> {
-    let mut count = 0u32;
-    let mut times = 0u32;
-    for (i, word) in env::args(&rt)?.enumerate() {
-        if i == 1 {
-            count = word.as_str().parse::<u32>().unwrap_or(0);
-        } else if i == 2 {
-            times = word.as_str().parse::<u32>().unwrap_or(0);
-        }
-    }
+    let mut words = env::args(&rt)?.skip(1);
+    let count = number_of(words.next());
+    let times = number_of(words.next());
     let mut places = [Place::FREE; MOST_PLACES];
     match TableSize::check(places.len()) {
         Ok(size) => {

@@ -1,19 +1,55 @@
 -- What places in a row mean after a look, a write and a wipe. Assumes nothing.
-use Rattle.std.proofs.Common.{◌≡◌, ℕ, zero, suc, ◌-◌, ◌<◌, ◌≤◌, min, Bool, true, false, cond, not, ◌&&◌, ltb, leb, List, [], ◌∷◌, ◌++◌, length, get_or, take, set, replicate, is_some, Some, None, Ok, Err, sym, refl, ap, ◌∙◌, arith}
-use Rattle.std.proofs.lemmas.Bool.{leb-true, and_parts, and_right, cond-true, cond-false, not_from_true, not_from_false, lt-ltb, le-ltb}
+use Rattle.std.proofs.Common.{◌≡◌, ℕ, zero, suc, ◌+◌, ◌-◌, ◌<◌, ◌≤◌, min, Bool, true, false, cond, not, ◌&&◌, ltb, List, [], ◌∷◌, ◌++◌, length, get_or, take, set, replicate, is_some, Some, None, Ok, Err, Option, sym, refl, ap, ◌∙◌, inl, inr, arith}
+use Rattle.std.specs.List.{position, find, count_by, slice_get, filter}
+use Rattle.std.specs.Option.{option_map}
+use Rattle.std.proofs.lemmas.List.Recursion.{is_position_or_len, is_count_by}
+use Rattle.std.proofs.lemmas.Bool.{cases_Bool, both_ways, ltb-true, ltb-false, and_parts, and_right, cond-true, cond-false, not_from_true, not_from_false, lt-ltb, le-ltb}
 use Rattle.std.proofs.lemmas.List.{length-take-le}
-use Rattle.std.proofs.lemmas.Simd.{length-replicate}
 use Rattle.std.specs.List.{insert}
 use Rattle.refusal.specs.declared.Refusal.TheVariants.{NoSession, SessionPresent, StoreFull}
 use Rattle.refusal.specs.Refusals.{fault_at}
 use Rattle.wire.specs.declared.id.SessionId.{SessionId}
 use Rattle.wire.specs.Ids.{same_id}
 use Rattle.session.specs.declared.session.Session.{Session}
-use Rattle.store.specs.Stores.{Pairs, lookup, has, replaced, without, add_answer, need_answer}
+use Rattle.store.specs.Stores.{Pairs, lookup, name_at, has, replaced, without, add_answer, need_answer}
 use Rattle.store.proofs.Finding.{same_id_lem}
 use Rattle.stores.specs.declared.place.Place.{Place}
-use Rattle.stores.specs.Places.{pair_in, filled, filled_most, holds_id, is_free, first_of, free_place, place_of}
-use Rattle.stores.specs.Sizes.{most_places, is_size}
+use Rattle.stores.specs.Places.{pair_in, filled, filled_most, holds_id, is_free, in_use, id_in, session_in, free_place, place_of}
+
+-- the first place that passes a test, or their number where none does
+abbrev pub first_of : (Place → Bool) → List Place → ℕ
+first_of test [] = 0
+first_of test (x ∷ xs) = cond (test x) 0 (suc (first_of test xs))
+
+module _ (test : Place → Bool) (xs : List Place) where
+  by_first : position test xs ≡ cond (ltb (first_of test xs) (length xs)) (Some (first_of test xs)) None
+  by_first = ap (λ n. cond (ltb n (length xs)) (Some n) None) (sym (is_position_or_len (first_of test) test refl (λ x ys. ap (λ n. cond (test x) 0 n) (omega arith)) xs))
+
+  pub found_first : (i : ℕ) → Some i ≡ position test xs → (first_of test xs < length xs) × (i ≡ first_of test xs)
+  found_first i h = elim (cases_Bool (ltb (first_of test xs) (length xs))) [
+    | inl t ↦ (ltb-true (first_of test xs) (length xs) t, let e : Some i ≡ Some (first_of test xs) = h ∙ by_first ∙ ap (λ (b : Bool). cond b (Some (first_of test xs)) None) t in cc)
+    | inr f ↦ let e : ◌≡◌ {A = Option ℕ} (Some i) None = h ∙ by_first ∙ ap (λ (b : Bool). cond b (Some (first_of test xs)) None) f in absurd (both_ways false refl (sym (ap is_some e)))
+  ]
+
+  pub none_first : None ≡ position test xs → length xs ≤ first_of test xs
+  none_first h = elim (cases_Bool (ltb (first_of test xs) (length xs))) [
+    | inl t ↦ let e : ◌≡◌ {A = Option ℕ} None (Some (first_of test xs)) = h ∙ by_first ∙ ap (λ (b : Bool). cond b (Some (first_of test xs)) None) t in absurd (both_ways false refl (ap is_some e))
+    | inr f ↦ ltb-false (first_of test xs) (length xs) f
+  ]
+
+  pub some_first : is_some (position test xs) ≡ true → first_of test xs < length xs
+  some_first = go (position test xs) refl
+    where
+      go : (o : Option ℕ) → o ≡ position test xs → is_some o ≡ true → first_of test xs < length xs
+      go (Some i) e t = (found_first i e).0
+      go None e t = absurd (both_ways false refl t)
+
+  pub no_first : is_some (position test xs) ≡ false → length xs ≤ first_of test xs
+  no_first = go (position test xs) refl
+    where
+      go : (o : Option ℕ) → o ≡ position test xs → is_some o ≡ false → length xs ≤ first_of test xs
+      go (Some i) e t = absurd (both_ways true t refl)
+      go None e t = none_first e
 
 -- a place that is used or not
 abbrev with : Place → Bool → Place
@@ -64,6 +100,12 @@ module _ (id : SessionId) where
 
   -- ---- the place of an ID
 
+  pub looked_up : (xs : List Place) → lookup (filled xs) id ≡ option_map session_in (find (holds_id id) xs)
+  looked_up [] = refl
+  looked_up (p ∷ xs) =
+      look_pair p (filled xs)
+      ∙ (elim (cases_Bool (holds_id id p)) [ inl t ↦ rw t refl | inr f ↦ rw f (looked_up xs) ])
+
   pub place_absent : (xs : List Place) → length xs ≤ first_of (holds_id id) xs → lookup (filled xs) id ≡ None
   place_absent [] h = refl
   place_absent (p ∷ xs) h =
@@ -97,6 +139,25 @@ module _ (id : SessionId) where
         | false ↦ (λ k. ap (λ (l : Pairs). pair_in p ++ l) (place_wiped xs (omega arith)))
       ]) h
       ∙ sym (take_pair p (filled xs))
+
+-- ---- the places in use
+
+pub used_are : (xs : List Place) → length (filled xs) ≡ count_by in_use xs
+used_are xs = is_count_by (λ ys. length (filled ys)) in_use refl one_more xs
+  where
+    one_more : (p : Place) (xs : List Place) → length (pair_in p ++ filled xs) ≡ cond p.used (1 + length (filled xs)) (length (filled xs))
+    one_more p xs =
+        let P : Bool → Type 0 = λ u. length (pair_in (with p u) ++ filled xs) ≡ cond u (1 + length (filled xs)) (length (filled xs)) in
+        elim p.used as P [ true ↦ omega arith | false ↦ refl ]
+
+pub named : (xs : List Place) (n : ℕ) → name_at (filled xs) n ≡ option_map id_in (slice_get (filter in_use xs) n)
+named [] n = refl
+named (p ∷ xs) zero =
+    let P : Bool → Type 0 = λ u. name_at (pair_in (with p u) ++ filled xs) 0 ≡ option_map id_in (slice_get (cond u (p ∷ filter in_use xs) (filter in_use xs)) 0) in
+    elim p.used as P [ true ↦ refl | false ↦ named xs 0 ]
+named (p ∷ xs) (suc n) =
+    let P : Bool → Type 0 = λ u. name_at (pair_in (with p u) ++ filled xs) (suc n) ≡ option_map id_in (slice_get (cond u (p ∷ filter in_use xs) (filter in_use xs)) (suc n)) in
+    elim p.used as P [ true ↦ named xs n | false ↦ named xs (suc n) ]
 
 -- ---- a free place
 
@@ -139,12 +200,6 @@ emptied_part xs ys size m n e h is =
     let short : n - 0 ≤ length xs = omega arith in
     let same : n - 0 ≡ min size (length xs) = omega arith in
     is ∙ ap (λ k. replicate k free_place) (length-take-le (n - 0) xs short ∙ same)
-
-pub size_most : (n : ℕ) → is_size n ≡ true → n ≤ most_places
-size_most n h = leb-true n most_places (and_parts (leb 1 n) (leb n most_places) h).1
-
-pub length_free : (n : ℕ) → length (replicate n free_place) ≡ n
-length_free n = length-replicate n free_place
 
 -- ---- what is answered
 

@@ -1,5 +1,5 @@
 -- What places mean. Assumes nothing.
-use Rattle.std.specs.Prelude.{ℕ, suc, ◌≤◌, Bool, true, false, cond, not, ◌&&◌, List, [], ◌∷◌, ◌++◌, length, None}
+use Rattle.std.specs.Prelude.{◌≡◌, suc, ◌≤◌, Bool, true, false, cond, not, ◌&&◌, List, [], ◌∷◌, ◌++◌, length, None}
 use Rattle.std.proofs.Common.{arith}
 use Rattle.std.specs.List.{flat_map}
 use Rattle.wire.specs.declared.id.SessionId.{SessionId}
@@ -17,7 +17,7 @@ use Rattle.stores.specs.declared.place.Place.{Place}
 abbrev pub pair_in : Place → Pairs
 pair_in p = cond p.used ((p.id, p.session) ∷ []) []
 
--- a place with nothing in it: all zeros, and no key left
+-- a place with nothing in it: its numbers are 0, and no key is left
 abbrev pub free_place : Place
 free_place = record {
   used = false;
@@ -41,13 +41,17 @@ filled xs = flat_map pair_in xs
 abbrev pub holds_id : SessionId → Place → Bool
 holds_id id p = same_id p.id id && p.used
 
+abbrev pub in_use : Place → Bool
+in_use p = p.used
+
+abbrev pub id_in : Place → SessionId
+id_in p = p.id
+
+abbrev pub session_in : Place → Session
+session_in p = p.session
+
 abbrev pub is_free : Place → Bool
 is_free p = not p.used
-
--- the first place that passes a test, or their number where none does
-abbrev pub first_of : (Place → Bool) → List Place → ℕ
-first_of test [] = 0
-first_of test (x ∷ xs) = cond (test x) 0 (suc (first_of test xs))
 
 pub filled_most : (xs : List Place) → length (filled xs) ≤ length xs
 filled_most [] = omega arith
@@ -55,6 +59,10 @@ filled_most (p ∷ xs) =
     let more = filled_most xs in
     let P : Bool → Type 0 = λ u. length {A = Pair} (cond u ((p.id, p.session) ∷ []) [] ++ filled xs) ≤ suc (length xs) in
     elim p.used as P [ true ↦ omega arith | false ↦ omega arith ]
+
+-- no more pairs than one place
+pub one_most : (xs : List Place) → length xs ≡ 1 → length (filled xs) ≤ 1
+one_most xs one = omega (arith, filled_most xs)
 
 -- no more than one pair is in a place
 pub pair_most : (p : Place) → length (pair_in p) ≤ 1

@@ -10,7 +10,8 @@ use session::session::{Session, Settings};
 use wire::id::SessionId;
 use wire::parties::Role;
 
-// Where `used` is not set the place is free, and what else stands in it means nothing.
+// Where `used` is not set the place is free, and what else stands in it means nothing. A flag and no `Option`: a rule of this project
+// wants a place that is freed to be written over whole, so that no key is left in its caller's memory.
 #[derive(Clone, Copy)]
 pub struct Place {
     pub used: bool,
@@ -19,7 +20,7 @@ pub struct Place {
 }
 
 impl Place {
-    // A free place: all zeros, and no key left in it.
+    // A free place: its numbers are 0, and no key is left in it.
     pub const FREE: Place = Place {
         used: false,
         id: SessionId { number: 0 },
@@ -45,6 +46,6 @@ impl Place {
     pub fn holds(&self, id: SessionId) -> bool
         ensures { result ≡ holds_id id self.now }
     {
-        self.id.same(id) && self.used
+        self.id == id && self.used
     }
 }

@@ -1,89 +1,81 @@
 // Places in a row, searched and changed in place.
-ghost use Rattle.std.specs.Prelude.{◌≡◌, ◌≤◌, length, replicate};
+ghost use Rattle.std.specs.Prelude.{◌≡◌, length, replicate, position, Some, None, MatchResult};
+ghost use Rattle.refusal.specs.declared.Refusal.TheVariants.{NoSession, StoreFull};
+ghost use Rattle.refusal.specs.Refusals.{fault_at};
+ghost use Rattle.std.specs.List.{find, filter, slice_get};
+ghost use Rattle.std.specs.Option.{option_map};
 ghost use Rattle.store.specs.Stores.{lookup, name_at, replaced, without, add_answer, need_answer, Added};
-ghost use Rattle.stores.specs.Places.{filled, holds_id, is_free, first_of, free_place};
+ghost use Rattle.stores.specs.Places.{filled, holds_id, is_free, in_use, id_in, session_in, free_place};
 
 use crate::place::Place;
 use refusal::{Fault, Refusal};
 use session::session::Session;
 use wire::id::SessionId;
 
-// Where the session of an ID is, or the number of places. Sessions are not copied on the way.
-fn place_of(places: &[Place], id: SessionId) -> usize
-    ensures value { result ≡ first_of (holds_id id) places.now }
-    ensures bound { result ≤ length places.now }
+// Where the session of an ID is. Sessions are not copied on the way.
+fn place_of(places: &[Place], id: SessionId) -> Option<usize>
+    ensures { result ≡ position (holds_id id) places.now }
 {
-    for (i, place) in places.iter().enumerate() {
-        if place.holds(id) {
-            return i;
-        }
-    }
-    places.len()
+    places.iter().position(|place| place.holds(id))
 }
 
-// Where the first free place is, or the number of places.
-fn first_free(places: &[Place]) -> usize
-    ensures value { result ≡ first_of is_free places.now }
-    ensures bound { result ≤ length places.now }
+// Where the first free place is.
+fn first_free(places: &[Place]) -> Option<usize>
+    ensures { result ≡ position is_free places.now }
 {
-    for (i, place) in places.iter().enumerate() {
-        if !place.used {
-            return i;
-        }
-    }
-    places.len()
+    places.iter().position(|place| !place.used)
 }
 
+// The session of an ID, in the first place that holds it.
 pub(crate) fn session_of(places: &[Place], id: SessionId) -> Option<Session>
-    ensures { result ≡ lookup (filled places.now) id }
+    ensures { result ≡ option_map session_in (find (holds_id id) places.now) }
 {
-    let i = place_of(places, id);
-    if i == places.len() {
-        return None;
-    }
-    Some(places[i].session)
+    places
+        .iter()
+        .find(|place| place.holds(id))
+        .map(|place| place.session)
 }
 
+#[tactic(auto, using(crate::proofs::Rows::used_are))]
 pub(crate) fn used_count(places: &[Place]) -> usize
     ensures { result ≡ length (filled places.now) }
 {
-    let mut n: usize = 0;
-    for place in places {
-        if place.used {
-            n += 1;
-        }
-    }
-    n
+    places.iter().filter(|place| place.used).count()
 }
 
 // The ID in the n-th used place.
 pub(crate) fn id_at(places: &[Place], n: usize) -> Option<SessionId>
-    ensures { result ≡ name_at (filled places.now) n }
+    ensures { result ≡ option_map id_in (slice_get (filter in_use places.now) n) }
 {
-    let mut left = n;
-    for place in places {
-        if place.used {
-            if left == 0 {
-                return Some(place.id);
-            }
-            left -= 1;
-        }
-    }
-    None
+    places
+        .iter()
+        .filter(|place| place.used)
+        .nth(n)
+        .map(|place| place.id)
+}
+
+// Where the session of an ID is, which has to be there.
+fn held_place(places: &[Place], id: SessionId) -> Result<usize, Fault>
+    ensures { MatchResult result (λ i. position (holds_id id) places.now ≡ Some i) (λ e. (position (holds_id id) places.now ≡ None) × (e ≡ fault_at NoSession 0)) }
+{
+    place_of(places, id).ok_or(Fault::new(Refusal::NoSession, 0))
+}
+
+// Where a new session can stand, if there is room.
+fn open_place(places: &[Place]) -> Result<usize, Fault>
+    ensures { MatchResult result (λ i. position is_free places.now ≡ Some i) (λ e. (position is_free places.now ≡ None) × (e ≡ fault_at StoreFull 0)) }
+{
+    first_free(places).ok_or(Fault::new(Refusal::StoreFull, 0))
 }
 
 pub(crate) fn insert(places: &mut [Place], id: SessionId, session: Session) -> Result<(), Fault>
     ensures value { result ≡ add_answer (filled places.old) (length places.old) id }
     ensures after { Added (filled places.old) (filled places.new) id session result }
 {
-    let count = places.len();
-    if place_of(places, id) < count {
+    if place_of(places, id).is_some() {
         return Err(Fault::new(Refusal::SessionPresent, 0));
     }
-    let i = first_free(places);
-    if i == count {
-        return Err(Fault::new(Refusal::StoreFull, 0));
-    }
+    let i = open_place(places)?;
     places[i] = Place {
         used: true,
         id,
@@ -96,10 +88,7 @@ pub(crate) fn replace(places: &mut [Place], id: SessionId, session: Session) -> 
     ensures value { result ≡ need_answer (filled places.old) id }
     ensures after { filled places.new ≡ replaced (filled places.old) id session }
 {
-    let i = place_of(places, id);
-    if i == places.len() {
-        return Err(Fault::new(Refusal::NoSession, 0));
-    }
+    let i = held_place(places, id)?;
     places[i].session = session;
     Ok(())
 }
@@ -109,10 +98,7 @@ pub(crate) fn remove(places: &mut [Place], id: SessionId) -> Result<(), Fault>
     ensures value { result ≡ need_answer (filled places.old) id }
     ensures after { filled places.new ≡ without (filled places.old) id }
 {
-    let i = place_of(places, id);
-    if i == places.len() {
-        return Err(Fault::new(Refusal::NoSession, 0));
-    }
+    let i = held_place(places, id)?;
     places[i] = Place::FREE;
     Ok(())
 }
@@ -120,7 +106,5 @@ pub(crate) fn remove(places: &mut [Place], id: SessionId) -> Result<(), Fault>
 pub(crate) fn clear(places: &mut [Place])
     ensures { places.new ≡ replicate (length places.old) free_place }
 {
-    for place in places.iter_mut() {
-        *place = Place::FREE;
-    }
+    places.fill(Place::FREE);
 }

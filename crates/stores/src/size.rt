@@ -17,6 +17,7 @@ pub struct TableSize {
 }
 
 impl TableSize {
+    // A call of its own and no `TryFrom`: a rule of this project wants a first call that refuses.
     pub fn check(count: usize) -> Result<TableSize, Fault>
         ensures { MatchResult result (λ s. (s.count ≡ count) × (is_size count ≡ true)) (λ e. (e ≡ fault_at OutOfRange 0) × (is_size count ≡ false)) }
     {

@@ -37,6 +37,7 @@ impl<'a> SessionStore for Table<'a> {
 
     ghost within = { λ t. filled_most t.places.now };
 
+    #[tactic(auto, using(crate::proofs::Rows::looked_up))]
     fn look(&self, id: SessionId) -> Option<Session> {
         session_of(self.places, id)
     }
@@ -45,6 +46,7 @@ impl<'a> SessionStore for Table<'a> {
         used_count(self.places)
     }
 
+    #[tactic(auto, using(crate::proofs::Rows::named))]
     fn name(&self, n: usize) -> Option<SessionId> {
         id_at(self.places, n)
     }

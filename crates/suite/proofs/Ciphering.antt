@@ -1,5 +1,5 @@
 -- What enciphering does to lists. Assumes nothing.
-use Rattle.std.proofs.Common.{◌≡◌, ℕ, zero, suc, ◌+◌, ◌<◌, ◌≤◌, List, [], ◌∷◌, ◌++◌, length, get_or, take, drop, set, refl, ap, ◌∙◌, le_of_suc-le-suc, not-suc-le-zero, add-zero, add-one, arith, length-append}
+use Rattle.std.proofs.Common.{◌≡◌, ℕ, zero, suc, ◌+◌, ◌<◌, ◌≤◌, List, [], ◌∷◌, ◌++◌, length, get_or, take, drop, set, sym, refl, ap, ◌∙◌, le_of_suc-le-suc, not-suc-le-zero, add-zero, add-one, arith, length-append}
 use lib.Bits.{bit_xor, xor_assoc, xor_self, xor_zero_r}
 use lib.ListN.{length-replicate}
 use Rattle.std.proofs.lemmas.List.{take_all, drop_all, append-nil}
@@ -31,17 +31,23 @@ enciphered_step f j (x ∷ xs) (suc i) h =
     cc
 
 -- a loop that enciphers in place, octet by octet: one turn, and the end
-pub enciphered_more : (f : ℕ → ℕ) (xs ys : List ℕ) (i : ℕ) → i < length xs → ys ≡ enciphered f 0 (take i xs) ++ drop i xs
-    → set ys i (bit_xor (get_or ys i 0) (f i)) ≡ enciphered f 0 (take (i + 1) xs) ++ drop (i + 1) xs
-enciphered_more f xs ys i h is =
-    let s = enciphered_step f 0 xs i h in
-    let z : 0 + i ≡ i = omega arith in
+pub enciphered_more : (f : ℕ → ℕ) (j : ℕ) (xs ys : List ℕ) (i : ℕ) → i < length xs → ys ≡ enciphered f j (take i xs) ++ drop i xs
+    → set ys i (bit_xor (get_or ys i 0) (f (j + i))) ≡ enciphered f j (take (i + 1) xs) ++ drop (i + 1) xs
+enciphered_more f j xs ys i h is =
+    let s = enciphered_step f j xs i h in
     let o = add-one i in
     cc
 
-pub enciphered_all : (f : ℕ → ℕ) (xs : List ℕ) (i : ℕ) → length xs ≤ i → enciphered f 0 (take i xs) ++ drop i xs ≡ enciphered f 0 xs
-enciphered_all f xs i h =
+pub enciphered_all : (f : ℕ → ℕ) (j : ℕ) (xs : List ℕ) (i : ℕ) → length xs ≤ i → enciphered f j (take i xs) ++ drop i xs ≡ enciphered f j xs
+enciphered_all f j xs i h =
     let t = take_all i xs h in
     let d = drop_all i xs h in
-    let n = append-nil (enciphered f 0 xs) in
+    let n = append-nil (enciphered f j xs) in
     cc
+
+-- a list that is enciphered piece by piece
+pub enciphered_append : (f : ℕ → ℕ) (j : ℕ) (xs ys : List ℕ) → enciphered f j (xs ++ ys) ≡ enciphered f j xs ++ enciphered f (j + length xs) ys
+enciphered_append f j [] ys = ap (λ k. enciphered f k ys) (sym (add-zero j))
+enciphered_append f j (x ∷ xs) ys =
+    let e : j + 1 + length xs ≡ j + suc (length xs) = omega arith in
+    ap (λ (l : List ℕ). bit_xor x (f j) ∷ l) (enciphered_append f (j + 1) xs ys ∙ ap (λ k. enciphered f (j + 1) xs ++ enciphered f k ys) e)

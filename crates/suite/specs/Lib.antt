@@ -1,1 +1,2 @@
 pub mod Ciphers
+pub mod Keysets

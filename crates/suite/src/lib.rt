@@ -4,12 +4,14 @@
 ghost use Rattle.std.specs.Prelude.{◌≡◌, ℕ, ◌<◌, ◌≤◌, List, length};
 ghost use Rattle.suite.specs.declared.Keyset.{Keyset};
 ghost use Rattle.suite.specs.declared.Inputs.{Inputs};
+ghost use Rattle.suite.specs.Keysets.{keyset_of};
 ghost use Rattle.suite.specs.Ciphers.{enciphered, padded, longest_tag};
 
 // The octets of the longest tag.
 pub const LONGEST_TAG: usize = 16;
 
 // Two 128-bit keys, each in two halves, the first octets in the first half.
+// A keyset is these four numbers, and has no array.
 #[derive(Clone, Copy)]
 pub struct Keyset {
     pub integrity0: u64,
@@ -18,10 +20,28 @@ pub struct Keyset {
     pub encryption1: u64,
 }
 
+impl Keyset {
+    // The keyset whose integrity key is one octet sixteen times, and whose encryption key another.
+    pub fn of_octets(integrity: u8, encryption: u8) -> Keyset
+        ensures { result ≡ keyset_of integrity encryption }
+    {
+        let integrity = u64::from_be_bytes([integrity; 8]);
+        let encryption = u64::from_be_bytes([encryption; 8]);
+        Keyset {
+            integrity0: integrity,
+            integrity1: integrity,
+            encryption0: encryption,
+            encryption1: encryption,
+        }
+    }
+}
+
 // What a suite is told of a message besides its keys and octets.
 #[derive(Clone, Copy)]
 pub struct Inputs {
     pub count: u32,
+    // Numbers, as the suites' standards take them: published vectors give bearers that belong to no plane, and planes and roles are of a
+    // crate above this one.
     pub bearer: u8,
     pub direction: u8,
 }
@@ -37,6 +57,7 @@ pub trait Suite {
     // How many octets a tag has.
     ghost size: { Self → ℕ };
 
+    // Keys and inputs stay two parameters: one is of a session and one of a message, and each suite would take a struct of both apart.
     fn tag_length(&self) -> usize
         ensures { result ≡ size self.now };
 
@@ -44,7 +65,7 @@ pub trait Suite {
     fn encipher(&self, keys: Keyset, inputs: Inputs, part: &mut [u8])
         ensures { part.new ≡ enciphered (keystream self.now keys inputs) 0 part.old };
 
-    // The tag, and zeros behind it.
+    // The tag, and zeros behind it: no heap, and how many octets a tag has is known only when the program runs.
     fn tag(&self, keys: Keyset, inputs: Inputs, message: &[u8]) -> [u8; LONGEST_TAG]
         ensures { result ≡ padded (tag_of self.now keys inputs message.now) };
 

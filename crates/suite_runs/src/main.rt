@@ -6,34 +6,17 @@ mod trace;
 
 use std::{env, io};
 
-#[derive(Clone, Copy)]
-enum Run {
-    Cost,
-    Trace,
-    None,
-}
-
-fn run_of(word: &str) -> Run {
-    match word {
-        "cost" => Run::Cost,
-        "trace" => Run::Trace,
-        _ => Run::None,
-    }
-}
-
 fn main(rt: HostRuntime) -> io::Result<()> {
-    let mut run = Run::None;
-    let mut times = 0u32;
-    for (i, word) in env::args(&rt)?.enumerate() {
-        if i == 1 {
-            run = run_of(word.as_str());
-        } else if i == 2 {
-            times = word.as_str().parse::<u32>().unwrap_or(0);
-        }
-    }
-    match run {
-        Run::Cost => cost::run(&rt, times),
-        Run::Trace => trace::run(&rt, times),
-        Run::None => println!(rt; "cost or trace, and how many messages"),
+    // Each of the programs that are measured reads its own two arguments; a number that is none is 0.
+    let mut words = env::args(&rt)?.skip(1);
+    let run = words.next();
+    let times = words
+        .next()
+        .and_then(|word| word.as_str().parse::<u32>().ok())
+        .unwrap_or(0);
+    match run.as_ref().map(|word| word.as_str()) {
+        Some("cost") => cost::run(&rt, times),
+        Some("trace") => trace::run(&rt, times),
+        _ => println!(rt; "cost or trace, and how many messages"),
     }
 }

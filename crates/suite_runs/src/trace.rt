@@ -37,7 +37,7 @@ impl Random {
 
 fn octets(heap: Global, octets: &[u8]) -> io::Result<String> {
     let mut text = String::new(heap);
-    if octets.len() == 0 {
+    if octets.is_empty() {
         text.push_str("-")?;
     }
     for x in octets {
@@ -58,8 +58,8 @@ fn one(rt: &HostRuntime, random: &mut Random, message: &mut [u8]) -> io::Result<
         bearer: random.below(32) as u8,
         direction: random.below(2) as u8,
     };
-    for i in 0..message.len() {
-        message[i] = random.below(256) as u8;
+    for x in message.iter_mut() {
+        *x = random.below(256) as u8;
     }
     let tag = Aes.tag(keys, inputs, message);
     let tag = octets(rt.alloc(), &tag[0..4])?;

@@ -3,8 +3,8 @@ use Rattle.std.specs.Prelude.{ℕ, List, ◌++◌, codes, decimal}
 use Rattle.refusal.specs.Refusals.{number_of, layer_name}
 use Rattle.refusal.specs.declared.Fault.{Fault}
 use Rattle.wire.specs.declared.parties.Plane.{Plane}
-use Rattle.wire.specs.declared.parties.Plane.TheVariants.{Control, User}
-use Rattle.transcript.specs.Hex.{hex_of}
+use Rattle.wire.specs.Parties.{plane_name}
+use Rattle.wire.specs.Hex.{hex_of}
 use Rattle.transcript.specs.declared.answer.Answer.{Answer}
 use Rattle.transcript.specs.declared.answer.Answer.TheVariants.{Bad, Done, Ignored, Sealed, Heard, Counted, Refused}
 use Rattle.transcript.specs.declared.answer.Counts.{Counts}
@@ -39,10 +39,6 @@ outcome_of (Sealed message) = sealed message.now
 outcome_of (Heard m) = heard (message_of m)
 outcome_of (Counted control user) = counted control user
 outcome_of (Refused fault) = refused fault
-
-abbrev pub plane_name : Plane → List ℕ
-plane_name Control = codes "control"
-plane_name User = codes "user"
 
 -- sealed, accepted and missed
 abbrev pub counts_text : Counts → List ℕ

@@ -1,15 +1,15 @@
 // Answers to the lines of a script.
 ghost use Rattle.std.specs.Prelude.{◌≡◌, ◌++◌, is_ok, if◌then◌else◌, Some, string_bytes};
-ghost use Rattle.transcript.specs.Outcomes.{plane_name, counts_text, heard_text, message_of, text_of, outcome_of, line_of};
+ghost use Rattle.transcript.specs.Outcomes.{counts_text, heard_text, message_of, text_of, outcome_of, line_of};
 
-use crate::hex::Hex;
 use refusal::Fault;
 use std::alloc::AllocError;
 use std::fmt;
+use wire::hex::Hex;
 use wire::parties::Plane;
 
-// A message that was accepted.
-#[derive(Clone, Copy)]
+// A message that was accepted. Its ID is any octets, so that a transcript can tell those that are none.
+#[derive(Clone, Copy, PartialEq, Eq, Debug)]
 pub struct Message<'a> {
     pub id: &'a [u8],
     pub plane: Plane,
@@ -18,8 +18,8 @@ pub struct Message<'a> {
     pub content: &'a [u8],
 }
 
-// What was counted on one plane.
-#[derive(Clone, Copy)]
+// What was counted on one plane, as an end reports it: a type of its own, since a transcript knows nothing of ends.
+#[derive(Clone, Copy, PartialEq, Eq, Debug)]
 pub struct Counts {
     pub sealed: u32,
     pub accepted: u32,
@@ -27,7 +27,7 @@ pub struct Counts {
 }
 
 // The answer to one line.
-#[derive(Clone, Copy)]
+#[derive(Clone, Copy, PartialEq, Eq, Debug)]
 pub enum Answer<'a> {
     // The line is bad.
     Bad,
@@ -42,15 +42,6 @@ pub enum Answer<'a> {
     // The counts of the control plane and of the user plane.
     Counted(Counts, Counts),
     Refused(Fault),
-}
-
-fn plane_name(plane: Plane) -> &'static str
-    ensures { result.now ≡ plane_name plane }
-{
-    match plane {
-        Plane::Control => "control",
-        Plane::User => "user",
-    }
 }
 
 impl fmt::Display for Counts {
@@ -71,9 +62,12 @@ impl fmt::Display for Message<'_> {
 
     fn fmt<W: fmt::Write>(&self, f: &mut fmt::Formatter<W>) -> fmt::Result {
         let id = Hex { octets: self.id };
-        let plane = plane_name(self.plane);
-        let key = self.key;
-        let counter = self.counter;
+        let Message {
+            plane,
+            key,
+            counter,
+            ..
+        } = *self;
         let content = Hex {
             octets: self.content,
         };

@@ -2,4 +2,4 @@
 #![tactic(auto)]
 
 pub mod answer;
-mod hex;
+pub mod lines;

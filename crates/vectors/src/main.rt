@@ -10,20 +10,78 @@ use modes::cmac::cmac;
 use std::io;
 use suite::{Inputs, Keyset, Suite};
 
-// How many were compared, and how many differ.
-#[derive(Clone, Copy)]
-struct Count {
+// What was compared so far.
+#[derive(Drop)]
+struct Tally<'a> {
+    rt: &'a HostRuntime,
     compared: u32,
     different: u32,
 }
 
-fn note(rt: &HostRuntime, count: Count, name: &str, set: u32, same: bool) -> io::Result<Count> {
-    let word = if same { "same" } else { "DIFFERENT" };
-    println!(rt; "{word} {name} {set}")?;
-    Ok(Count {
-        compared: count.compared.saturating_add(1),
-        different: count.different.saturating_add(if same { 0 } else { 1 }),
-    })
+impl Tally<'_> {
+    fn note(&mut self, name: &str, set: usize, same: bool) -> io::Result<()> {
+        self.compared = self.compared.saturating_add(1);
+        let word = if same {
+            "same"
+        } else {
+            self.different = self.different.saturating_add(1);
+            "DIFFERENT"
+        };
+        let rt = self.rt;
+        println!(rt; "{word} {name} {set}")
+    }
+
+    // An example of FIPS 197.
+    fn block(
+        &mut self,
+        set: usize,
+        schedule: Schedule,
+        block: Block,
+        number: u128,
+    ) -> io::Result<()> {
+        let same = number_of(schedule.encrypt(block)) == number;
+        self.note("FIPS 197 cipher example", set, same)
+    }
+
+    // An AES-128 example of SP 800-38B, by the length of the message.
+    fn cmac(&mut self, message: &[u8], number: u128) -> io::Result<()> {
+        let schedule = Schedule::new(0x2B7E151628AED2A6, 0xABF7158809CF4F3C);
+        let same = number_of(cmac(&schedule, &[], message)) == number;
+        self.note("SP 800-38B CMAC of octets", message.len(), same)
+    }
+
+    // A set of 128-EEA2, up to its last whole octet.
+    fn eea2<const N: usize>(
+        &mut self,
+        set: usize,
+        keys: Keyset,
+        inputs: Inputs,
+        plain: [u8; N],
+        cipher: [u8; N],
+    ) -> io::Result<()> {
+        let mut part = plain;
+        Aes.encipher(keys, inputs, &mut part);
+        self.note("TS 33.401 128-EEA2 test set", set, part == cipher)
+    }
+
+    // A set of 128-EIA2, with the AES suite and with the clear suite.
+    fn eia2(
+        &mut self,
+        set: usize,
+        keys: Keyset,
+        inputs: Inputs,
+        message: &[u8],
+        tag: [u8; 4],
+    ) -> io::Result<()> {
+        let made = Aes.tag(keys, inputs, message);
+        let clear = Clear.tag(keys, inputs, message);
+        self.note("TS 33.401 128-EIA2 test set", set, made[0..4] == tag[0..4])?;
+        self.note(
+            "TS 33.401 128-EIA2, clear suite, test set",
+            set,
+            clear[0..4] == tag[0..4],
+        )
+    }
 }
 
 // The same key for integrity and encryption.
@@ -38,102 +96,41 @@ fn keyset(first: u64, second: u64) -> Keyset
     }
 }
 
-// FIPS 197, the examples of appendix B (1) and C.1 (2).
-fn blocks(rt: &HostRuntime, count: Count) -> io::Result<Count> {
-    let first = Schedule::new(0x2B7E151628AED2A6, 0xABF7158809CF4F3C).encrypt(Block {
-        a: 0x3243F6A8,
-        b: 0x885A308D,
-        c: 0x313198A2,
-        d: 0xE0370734,
-    });
-    let second = Schedule::new(0x0001020304050607, 0x08090A0B0C0D0E0F).encrypt(Block {
-        a: 0x00112233,
-        b: 0x44556677,
-        c: 0x8899AABB,
-        d: 0xCCDDEEFF,
-    });
-    let count = note(
-        rt,
-        count,
-        "FIPS 197 cipher example",
+// The examples of appendix B (1) and C.1 (2).
+fn blocks(tally: &mut Tally) -> io::Result<()> {
+    tally.block(
         1,
-        number_of(first) == 0x3925841D02DC09FBDC118597196A0B32,
+        Schedule::new(0x2B7E151628AED2A6, 0xABF7158809CF4F3C),
+        Block {
+            a: 0x3243F6A8,
+            b: 0x885A308D,
+            c: 0x313198A2,
+            d: 0xE0370734,
+        },
+        0x3925841D02DC09FBDC118597196A0B32,
     )?;
-    note(
-        rt,
-        count,
-        "FIPS 197 cipher example",
+    tally.block(
         2,
-        number_of(second) == 0x69C4E0D86A7B0430D8CDB78070B4C55A,
+        Schedule::new(0x0001020304050607, 0x08090A0B0C0D0E0F),
+        Block {
+            a: 0x00112233,
+            b: 0x44556677,
+            c: 0x8899AABB,
+            d: 0xCCDDEEFF,
+        },
+        0x69C4E0D86A7B0430D8CDB78070B4C55A,
     )
 }
 
-// SP 800-38B, the AES-128 examples, by the length of the message.
-fn cmac_of(message: &[u8]) -> u128 {
-    number_of(cmac(
-        &Schedule::new(0x2B7E151628AED2A6, 0xABF7158809CF4F3C),
-        &[],
-        message,
-    ))
+fn cmacs(tally: &mut Tally) -> io::Result<()> {
+    tally.cmac(&CMAC_MESSAGE[0..0], 0xBB1D6929E95937287FA37D129B756746)?;
+    tally.cmac(&CMAC_MESSAGE[0..16], 0x070A16B46B4D4144F79BDD9DD04A287C)?;
+    tally.cmac(&CMAC_MESSAGE[0..40], 0xDFA66747DE9AE63030CA32611497C827)?;
+    tally.cmac(&CMAC_MESSAGE[0..64], 0x51F0BEBF7E3B9D92FC49741779363CFE)
 }
 
-fn cmacs(rt: &HostRuntime, count: Count) -> io::Result<Count> {
-    let name = "SP 800-38B CMAC of octets";
-    let count = note(
-        rt,
-        count,
-        name,
-        0,
-        cmac_of(&CMAC_MESSAGE[0..0]) == 0xBB1D6929E95937287FA37D129B756746,
-    )?;
-    let count = note(
-        rt,
-        count,
-        name,
-        16,
-        cmac_of(&CMAC_MESSAGE[0..16]) == 0x070A16B46B4D4144F79BDD9DD04A287C,
-    )?;
-    let count = note(
-        rt,
-        count,
-        name,
-        40,
-        cmac_of(&CMAC_MESSAGE[0..40]) == 0xDFA66747DE9AE63030CA32611497C827,
-    )?;
-    note(
-        rt,
-        count,
-        name,
-        64,
-        cmac_of(&CMAC_MESSAGE[0..64]) == 0x51F0BEBF7E3B9D92FC49741779363CFE,
-    )
-}
-
-// A set of 128-EEA2, up to its last whole octet.
-fn eea2<const N: usize>(
-    rt: &HostRuntime,
-    count: Count,
-    set: u32,
-    keys: Keyset,
-    inputs: Inputs,
-    plain: [u8; N],
-    cipher: [u8; N],
-) -> io::Result<Count> {
-    let mut part = plain;
-    Aes.encipher(keys, inputs, &mut part);
-    note(
-        rt,
-        count,
-        "TS 33.401 128-EEA2 test set",
-        set,
-        part == cipher,
-    )
-}
-
-fn eea2s(rt: &HostRuntime, count: Count) -> io::Result<Count> {
-    let count = eea2(
-        rt,
-        count,
+fn eea2s(tally: &mut Tally) -> io::Result<()> {
+    tally.eea2(
         1,
         keyset(0xD3C5D592327FB11C, 0x4035C6680AF8C6D1),
         Inputs {
@@ -144,9 +141,7 @@ fn eea2s(rt: &HostRuntime, count: Count) -> io::Result<Count> {
         PLAIN_1,
         CIPHER_1,
     )?;
-    let count = eea2(
-        rt,
-        count,
+    tally.eea2(
         2,
         keyset(0x2BD6459F82C440E0, 0x952C49104805FF48),
         Inputs {
@@ -157,9 +152,7 @@ fn eea2s(rt: &HostRuntime, count: Count) -> io::Result<Count> {
         PLAIN_2,
         CIPHER_2,
     )?;
-    let count = eea2(
-        rt,
-        count,
+    tally.eea2(
         3,
         keyset(0x0A8B6BD8D9B08B08, 0xD64E32D1817777FB),
         Inputs {
@@ -170,9 +163,7 @@ fn eea2s(rt: &HostRuntime, count: Count) -> io::Result<Count> {
         PLAIN_3,
         CIPHER_3,
     )?;
-    let count = eea2(
-        rt,
-        count,
+    tally.eea2(
         4,
         keyset(0xAA1F95AEA533BCB3, 0x2EB63BF52D8F831A),
         Inputs {
@@ -183,9 +174,7 @@ fn eea2s(rt: &HostRuntime, count: Count) -> io::Result<Count> {
         PLAIN_4,
         CIPHER_4,
     )?;
-    eea2(
-        rt,
-        count,
+    tally.eea2(
         5,
         keyset(0x9618AE46891F8657, 0x8EEBE90EF7A1202E),
         Inputs {
@@ -198,38 +187,8 @@ fn eea2s(rt: &HostRuntime, count: Count) -> io::Result<Count> {
     )
 }
 
-// A set of 128-EIA2, with the AES suite and with the clear suite.
-fn eia2(
-    rt: &HostRuntime,
-    count: Count,
-    set: u32,
-    keys: Keyset,
-    inputs: Inputs,
-    message: &[u8],
-    tag: [u8; 4],
-) -> io::Result<Count> {
-    let made = Aes.tag(keys, inputs, message);
-    let clear = Clear.tag(keys, inputs, message);
-    let count = note(
-        rt,
-        count,
-        "TS 33.401 128-EIA2 test set",
-        set,
-        made[0..4] == tag[0..4],
-    )?;
-    note(
-        rt,
-        count,
-        "TS 33.401 128-EIA2, clear suite, test set",
-        set,
-        clear[0..4] == tag[0..4],
-    )
-}
-
-fn eia2s(rt: &HostRuntime, count: Count) -> io::Result<Count> {
-    let count = eia2(
-        rt,
-        count,
+fn eia2s(tally: &mut Tally) -> io::Result<()> {
+    tally.eia2(
         2,
         keyset(0xD3C5D592327FB11C, 0x4035C6680AF8C6D1),
         Inputs {
@@ -240,9 +199,7 @@ fn eia2s(rt: &HostRuntime, count: Count) -> io::Result<Count> {
         &MESSAGE_2,
         [0xB9, 0x37, 0x87, 0xE6],
     )?;
-    eia2(
-        rt,
-        count,
+    tally.eia2(
         5,
         keyset(0x83FD23A244A74CF3, 0x58DA3019F1722635),
         Inputs {
@@ -256,17 +213,16 @@ fn eia2s(rt: &HostRuntime, count: Count) -> io::Result<Count> {
 }
 
 fn main(rt: HostRuntime) -> io::Result<()> {
-    let none = Count {
+    let mut tally = Tally {
+        rt: &rt,
         compared: 0,
         different: 0,
     };
-    let count = blocks(&rt, none)?;
-    let count = cmacs(&rt, count)?;
-    let count = eea2s(&rt, count)?;
-    let Count {
-        compared,
-        different,
-    } = eia2s(&rt, count)?;
+    blocks(&mut tally)?;
+    cmacs(&mut tally)?;
+    eea2s(&mut tally)?;
+    eia2s(&mut tally)?;
+    let (compared, different) = (tally.compared, tally.different);
     println!(rt; "{compared} compared, {different} different")
 }
 

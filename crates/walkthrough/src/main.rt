@@ -29,12 +29,7 @@ fn agreed() -> Protection
     ensures format { result.format ≡ record { tag = Four; length = One } }
 {
     Protection {
-        keys: Keyset {
-            integrity0: 0x1010_1010_1010_1010,
-            integrity1: 0x1010_1010_1010_1010,
-            encryption0: 0x2020_2020_2020_2020,
-            encryption1: 0x2020_2020_2020_2020,
-        },
+        keys: Keyset::of_octets(0x10, 0x20),
         sender: Role::Logger,
         format: Format {
             tag: TagLength::Four,
@@ -64,12 +59,13 @@ fn print_octets(rt: &HostRuntime, title: &str, octets: &[u8]) -> io::Result<()> 
 }
 
 fn print_header(rt: &HostRuntime, title: &str, header: Header) -> io::Result<()> {
-    let plane = match header.plane {
-        Plane::Control => "control",
-        Plane::User => "user",
-    };
-    let (session, key, counter) = (header.id.number, header.key, header.counter);
-    println!(rt; "{title}: {plane} plane, session {session:02X}, key {key}, counter {counter}")
+    let Header {
+        plane,
+        key,
+        counter,
+        id,
+    } = header;
+    println!(rt; "{title}: {plane} plane, session {id}, key {key}, counter {counter}")
 }
 
 // Opens a message as the service, and prints what it says.
@@ -84,7 +80,8 @@ fn receive(rt: &HostRuntime, message: &mut [u8]) -> io::Result<()> {
     }
 }
 
-// Seals the level as the logger, and carries it to the service, altered or not.
+// Seals the level as the logger, and carries it to the service, altered or not: a flag, since a function that alters it would be no
+// plainer.
 fn report_level(rt: &HostRuntime, altered: bool) -> io::Result<()> {
     let mut buffer = [0u8; 32];
     match seal(

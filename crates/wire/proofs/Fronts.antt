@@ -2,12 +2,8 @@
 use Rattle.std.proofs.Common.{◌≡◌, ℕ, ◌+◌, ◌-◌, ◌≤◌, List, [], ◌∷◌, ◌++◌, length, drop, set, refl, ap, ◌∙◌, arith}
 use borrow.Rule.Slice.PartMut.{put_mid}
 use Rattle.std.specs.List.{between}
-use Rattle.std.proofs.lemmas.Slice.{between_to_end}
-use Rattle.wire.specs.declared.id.IdLength.{IdLength}
 use Rattle.wire.specs.declared.front.Header.{Header}
-use Rattle.wire.specs.Fronts.{first_octet, front, counter_octets, front_length, id_end}
-use Rattle.wire.specs.Ids.{id_length}
-use Rattle.wire.specs.Limits.{longest_id}
+use Rattle.wire.specs.Fronts.{first_octet, front, counter_octets, front_length}
 use Rattle.octets.specs.Octets.{octets, width_of}
 use Rattle.octets.proofs.Numbers.{length-octets}
 use Rattle.octets.proofs.Pieces.{first_written, piece_length, piece_written}
@@ -32,8 +28,3 @@ front-written h w v x out counter id w_is v_is room x_is counter_is id_is =
     let s2 = piece_written out ((x ∷ []) ++ counter) now (1 + w) (1 + w + v) s1.0 s1.1 (omega arith) (omega arith) id l2 in
     let n = length-octets (width_of h.counter) h.counter in
     cc
-
--- the ID is read from the rest of the message
-pub id_end_is : (m : List ℕ) (from : ℕ) (r : IdLength) → r ≡ id_length longest_id 0 (between from (length m) m)
-    → id_end (length m) from r ≡ id_end (length m) from (id_length longest_id 0 (drop from m))
-id_end_is m from r is = ap (id_end (length m) from) (is ∙ ap (id_length longest_id 0) (between_to_end m from (length m) (omega arith)))

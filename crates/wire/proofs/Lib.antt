@@ -1,3 +1,4 @@
 pub mod Ids
 pub mod Fronts
 pub mod Readings
+pub mod Hexadecimal

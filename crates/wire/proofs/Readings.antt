@@ -1,5 +1,5 @@
 -- A front is read exactly where one is written. Assumes nothing.
-use Rattle.std.proofs.Common.{◌≡◌, ℕ, suc, ◌+◌, ◌-◌, ◌/◌, ◌%◌, ◌^◌, ◌<◌, ◌≤◌, true, false, not, ◌&&◌, eqb, ltb, leb, List, ◌∷◌, ◌++◌, length, get_or, take, drop, Ok, Result, sym, refl, ap, ◌∙◌, subst, inl, inr, arith, length-append, length-drop, length-take-le, drop-cons, drop-drop, take_at, drop_at}
+use Rattle.std.proofs.Common.{◌≡◌, ℕ, suc, ◌+◌, ◌-◌, ◌/◌, ◌%◌, ◌^◌, ◌<◌, ◌≤◌, true, false, not, ◌&&◌, eqb, ltb, leb, List, ◌∷◌, ◌++◌, length, get_or, take, drop, Ok, Err, Result, sym, refl, ap, ◌∙◌, subst, inl, inr, arith, length-append, length-drop, length-take-le, drop-cons, drop-drop, take_at, drop_at}
 use Rattle.std.specs.List.{between}
 use Rattle.std.specs.Int.Digits.{number_from_digits as number, AllBelowBase}
 use Rattle.std.proofs.ByRecursion.{All-take, All-drop, All-get_or}
@@ -12,8 +12,8 @@ use Rattle.refusal.specs.Tests.{need, and_then}
 use Rattle.refusal.proofs.Rows.{need_held, and_then_went}
 use Rattle.wire.specs.declared.parties.Plane.{Plane}
 use Rattle.wire.specs.declared.parties.Plane.TheVariants.{Control, User}
-use Rattle.wire.specs.declared.id.IdLength.{IdLength}
-use Rattle.wire.specs.declared.id.IdLength.TheVariants.{Is, Unfinished, TooLong}
+use Rattle.wire.specs.declared.id.IdError.{IdError}
+use Rattle.wire.specs.declared.id.IdError.TheVariants.{Unfinished, TooLong}
 use Rattle.wire.specs.declared.front.Header.{Header}
 use Rattle.wire.specs.declared.front.Front.{Front}
 use Rattle.wire.specs.FrontLaws.{Writable, Begins, ReadAsWritten}
@@ -68,7 +68,7 @@ each m f size b =
     let at : length (x ∷ counter) ≡ 1 + n = omega arith in
     let back : drop (1 + n) m ≡ name ++ b.rest = ap (drop (1 + n)) is ∙ drop_at (x ∷ counter) (name ++ b.rest) (1 + n) at in
     let ends = is_id_ends name b.writable.id in
-    let found : id_length longest_id 0 (drop (1 + n) m) ≡ Is k = ap (id_length longest_id 0) back ∙ id_before longest_id 0 k name b.rest ends.0 in
+    let found : id_length longest_id 0 (drop (1 + n) m) ≡ Ok k = ap (id_length longest_id 0) back ∙ id_before longest_id 0 k name b.rest ends.0 in
     let z1 : 1 + n - 1 ≡ n = omega arith in
     let digits : between 1 (1 + n) m ≡ counter = ap (λ i. take i (drop 1 m)) z1 ∙ ap (λ (l : List ℕ). take n (drop 1 l)) is ∙ take_at counter (name ++ b.rest) n refl in
     let z2 : 1 + n + k - (1 + n) ≡ k = omega arith in
@@ -92,10 +92,10 @@ under_part : (i j : ℕ) (m : List ℕ) → AllBelowBase 256 m → AllBelowBase 
 under_part i j m u = All-take (λ d. d < 256) (j - i) (drop i m) (All-drop (λ d. d < 256) i m u)
 
 -- an ID that ends within a message
-id_ended : (len from to : ℕ) (r : IdLength) → id_end len from r ≡ Ok to → (n : ℕ) × (r ≡ Is n) × (to ≡ from + n)
-id_ended len from to (Is n) h = (n, refl, cc)
-id_ended len from to Unfinished h = let z : ◌≡◌ {A = ℕ} 0 1 = cc in absurd (omega arith)
-id_ended len from to TooLong h = let z : ◌≡◌ {A = ℕ} 0 1 = cc in absurd (omega arith)
+id_ended : (len from to : ℕ) (r : Result ℕ IdError) → id_end len from r ≡ Ok to → (n : ℕ) × (r ≡ Ok n) × (to ≡ from + n)
+id_ended len from to (Ok n) h = (n, refl, cc)
+id_ended len from to (Err Unfinished) h = let z : ◌≡◌ {A = ℕ} 0 1 = cc in absurd (omega arith)
+id_ended len from to (Err TooLong) h = let z : ◌≡◌ {A = ℕ} 0 1 = cc in absurd (omega arith)
 
 -- what the tests of a reading tell, where none refuses
 record Passed (m : List ℕ) (f : Front) : Type 0 where
@@ -105,7 +105,7 @@ record Passed (m : List ℕ) (f : Front) : Type 0 where
   pub low : (1 ≤ get_or m 0 0 % 8) × (get_or m 0 0 % 8 ≤ longest_counter)
   pub counter : 1 + get_or m 0 0 % 8 ≤ length m
   pub ends : ℕ
-  pub found : id_length longest_id 0 (drop (1 + get_or m 0 0 % 8) m) ≡ Is ends
+  pub found : id_length longest_id 0 (drop (1 + get_or m 0 0 % 8) m) ≡ Ok ends
   pub number : eqb (number 256 (between (1 + get_or m 0 0 % 8) (1 + get_or m 0 0 % 8 + ends) m)) 0 ≡ false
   pub is : front_of m (1 + get_or m 0 0 % 8) (1 + get_or m 0 0 % 8 + ends) ≡ f
 
@@ -163,8 +163,8 @@ only m f u h =
     let d1 = length-drop 1 m in
     let lc : length counter ≡ n = ap length digits ∙ length-take-le n (drop 1 m) (omega (arith, p.counter)) in
     let ln : length name ≡ k = ap length name_read ∙ length-take-le k (drop from m) (omega (arith, found.1)) in
-    let again : id_length longest_id 0 (take k (drop from m)) ≡ Is k = rw z3 at found.3 in
-    let ends : id_length longest_id 0 name ≡ Is (length name) = ap (id_length longest_id 0) name_read ∙ again ∙ ap Is (sym ln) in
+    let again : id_length longest_id 0 (take k (drop from m)) ≡ Ok k = rw z3 at found.3 in
+    let ends : id_length longest_id 0 name ≡ Ok (length name) = ap (id_length longest_id 0) name_read ∙ again ∙ ap Ok (sym ln) in
     let good : is_id name ≡ true = is_id_from name ends p.number in
     let written = id_octets_lem name (under_part from to m u) good in
     let below : x < 256 = All-get_or (λ d. d < 256) m 0 0 p.some u in

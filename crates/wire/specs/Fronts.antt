@@ -8,8 +8,8 @@ use Rattle.refusal.specs.Refusals.{fault_at}
 use Rattle.refusal.specs.Tests.{need, and_then}
 use Rattle.wire.specs.declared.parties.Plane.{Plane}
 use Rattle.wire.specs.declared.parties.Plane.TheVariants.{Control, User}
-use Rattle.wire.specs.declared.id.IdLength.{IdLength}
-use Rattle.wire.specs.declared.id.IdLength.TheVariants.{Is, Unfinished, TooLong}
+use Rattle.wire.specs.declared.id.IdError.{IdError}
+use Rattle.wire.specs.declared.id.IdError.TheVariants.{Unfinished, TooLong}
 use Rattle.wire.specs.declared.front.Header.{Header}
 use Rattle.wire.specs.declared.front.Front.{Front}
 use Rattle.wire.specs.Ids.{id_length, id_of, id_octets}
@@ -42,10 +42,10 @@ abbrev pub plane_of : ℕ → Plane
 plane_of first = cond (nat_lt first 128) Control User
 
 -- the end of the ID that stands at `from`
-abbrev pub id_end : ℕ → ℕ → IdLength → Result ℕ Fault
-id_end len from (Is n) = Ok (from + n)
-id_end len from Unfinished = Err (fault_at EndsInHeader len)
-id_end len from TooLong = Err (fault_at NotASessionId from)
+abbrev pub id_end : ℕ → ℕ → Result ℕ IdError → Result ℕ Fault
+id_end len from (Ok n) = Ok (from + n)
+id_end len from (Err Unfinished) = Err (fault_at EndsInHeader len)
+id_end len from (Err TooLong) = Err (fault_at NotASessionId from)
 
 abbrev pub front_of : List ℕ → ℕ → ℕ → Front
 front_of m from to = record {

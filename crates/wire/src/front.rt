@@ -5,7 +5,7 @@ ghost use Rattle.wire.specs.Ids.{id_length};
 ghost use Rattle.wire.specs.Limits.{longest_counter, longest_id};
 ghost use Rattle.octets.specs.Octets.{width_of};
 
-use crate::id::{IdLength, SessionId, id_length};
+use crate::id::{IdError, SessionId, id_length};
 use crate::parties::Plane;
 use octets::{read_number, width, write_number};
 use refusal::{Fault, Refusal};
@@ -16,7 +16,8 @@ pub const LONGEST_MESSAGE: usize = 2048;
 // The octets of the longest counter.
 pub const LONGEST_COUNTER: usize = 4;
 
-// What the front of a message says.
+// What the front of a message says. A caller may ask for any key, and sealing refuses what does not fit, so that a key fits its three
+// bits is no fact of this type.
 #[derive(Clone, Copy, PartialEq, Eq, Debug)]
 pub struct Header {
     pub plane: Plane,
@@ -34,7 +35,7 @@ pub struct Front {
 }
 
 impl Plane {
-    // The plane of a message by its first octet's top bit.
+    // The plane of a message by its first octet's top bit. No `From<u8>`: the rest of the octet says other things.
     pub fn of(first: u8) -> Plane
         ensures { result ≡ plane_of first }
     {
@@ -87,9 +88,9 @@ fn id_end(message: &[u8], from: usize) -> Result<usize, Fault>
     ensures short { IfOk result (λ to. (from < to) × (to ≤ length message.now) × (to ≤ from + longest_id)) }
 {
     match id_length(&message[from..]) {
-        IdLength::Is(n) => Ok(from + n),
-        IdLength::Unfinished => Err(Fault::new(Refusal::EndsInHeader, message.len())),
-        IdLength::TooLong => Err(Fault::new(Refusal::NotASessionId, from)),
+        Ok(n) => Ok(from + n),
+        Err(IdError::Unfinished) => Err(Fault::new(Refusal::EndsInHeader, message.len())),
+        Err(IdError::TooLong) => Err(Fault::new(Refusal::NotASessionId, from)),
     }
 }
 
@@ -102,10 +103,10 @@ pub fn read_front(message: &[u8]) -> Result<Front, Fault>
     if len > LONGEST_MESSAGE {
         return Err(Fault::new(Refusal::MessageTooLong, 0));
     }
-    if len == 0 {
-        return Err(Fault::new(Refusal::EndsInHeader, len));
-    }
-    let first = message[0];
+    let first = message
+        .first()
+        .copied()
+        .ok_or(Fault::new(Refusal::EndsInHeader, len))?;
     if first / 64 % 2 == 1 {
         return Err(Fault::new(Refusal::ReservedBitSet, 0));
     }

@@ -1,10 +1,16 @@
 // Session IDs: one to four octets, the top bit set on all but the last.
-ghost use Rattle.std.specs.Prelude.{◌≡◌, ◌≤◌, length};
-ghost use Rattle.wire.specs.Ids.{id_length, IdInside, is_id, id_given, id_octets, same_id};
+ghost use Rattle.std.specs.Prelude.{◌≡◌, ◌<◌, ◌≤◌, length, take, position, Some, IfSome};
+ghost use Rattle.std.specs.Option.{ok_or};
+ghost use Rattle.refusal.specs.Refusals.{range_error};
+ghost use Rattle.wire.specs.Ids.{ends_id, id_length, IdInside, is_id, id_given, id_octets};
+ghost use Rattle.wire.specs.Hex.{hex_of};
 ghost use Rattle.wire.specs.Limits.{longest_id};
 ghost use Rattle.octets.specs.Octets.{width_of};
 
-use octets::{read_number, width, write_number};
+use crate::hex::Hex;
+use octets::{read_number, width};
+use refusal::RangeError;
+use std::fmt;
 
 // The octets of the longest ID.
 pub const LONGEST_ID: usize = 4;
@@ -16,53 +22,53 @@ pub struct SessionId {
     pub number: u32,
 }
 
-// Where the ID that some octets begin with ends.
-#[derive(Clone, Copy)]
-pub enum IdLength {
-    Is(usize),
+// Why no ID ends in some octets.
+#[derive(Clone, Copy, PartialEq, Eq, Debug)]
+pub enum IdError {
+    // They stop before its last octet.
     Unfinished,
+    // None of the first four is its last.
     TooLong,
 }
 
-pub fn id_length(l: &[u8]) -> IdLength
+// The place of the first octet whose top bit is clear, among the first four.
+fn last_place(l: &[u8]) -> Option<usize>
+    ensures value { result ≡ position ends_id (take longest_id l.now) }
+    ensures bound { IfSome result (λ i. (i < length l.now) × (i < longest_id)) }
+{
+    l.iter().take(LONGEST_ID).position(|x| *x < 128)
+}
+
+// How many octets the ID has that some octets begin with.
+pub fn id_length(l: &[u8]) -> Result<usize, IdError>
     ensures value { result ≡ id_length longest_id 0 l.now }
     ensures inside { IdInside (length l.now) result }
 {
-    for i in 0..LONGEST_ID {
-        if i >= l.len() {
-            return IdLength::Unfinished;
+    match last_place(l) {
+        Some(last) => Ok(last + 1),
+        None if l.len() < LONGEST_ID => Err(IdError::Unfinished),
+        None => Err(IdError::TooLong),
+    }
+}
+
+// The ID that these octets are, all of them; 00 is none.
+impl TryFrom<&[u8]> for SessionId {
+    type Error = RangeError;
+
+    ghost try_from_gives = { λ l r. r ≡ ok_or (id_given l.now) range_error };
+
+    fn try_from(l: &[u8]) -> Result<SessionId, RangeError> {
+        if id_length(l) != Ok(l.len()) {
+            return Err(RangeError);
         }
-        if l[i] < 128 {
-            return IdLength::Is(i + 1);
+        match read_number(l) {
+            0 => Err(RangeError),
+            number => Ok(SessionId { number }),
         }
     }
-    IdLength::TooLong
 }
 
 impl SessionId {
-    // The ID that these octets are, all of them; 00 is none.
-    pub fn from_octets(l: &[u8]) -> Option<SessionId>
-        ensures { result ≡ id_given l.now }
-    {
-        match id_length(l) {
-            IdLength::Is(n) if n == l.len() => {
-                let number = read_number(l);
-                if number == 0 {
-                    None
-                } else {
-                    Some(SessionId { number })
-                }
-            }
-            _ => None,
-        }
-    }
-
-    pub fn same(self, other: SessionId) -> bool
-        ensures { result ≡ same_id self other }
-    {
-        self.number == other.number
-    }
-
     // How many octets the ID has.
     pub fn width(self) -> usize
         ensures value { result ≡ width_of self.number }
@@ -71,13 +77,24 @@ impl SessionId {
         width(self.number)
     }
 
-    // Whether the octets of the number are an ID.
+    // Whether the octets of the number are an ID. They are cut from the number's four here, in `fmt` and where a bench tells an ID: a
+    // method that lends them would need a buffer that its caller makes.
     pub fn is_valid(self) -> bool
         ensures { result ≡ is_id (id_octets self) }
     {
-        let mut octets = [0u8; LONGEST_ID];
-        let n = self.width();
-        write_number(self.number, &mut octets[0..n]);
-        SessionId::from_octets(&octets[0..n]).is_some()
+        let octets = self.number.to_be_bytes();
+        SessionId::try_from(&octets[LONGEST_ID - self.width()..]).is_ok()
+    }
+}
+
+impl fmt::Display for SessionId {
+    ghost output = { λ id. Some (hex_of (id_octets id)) };
+
+    fn fmt<W: fmt::Write>(&self, f: &mut fmt::Formatter<W>) -> fmt::Result {
+        let octets = self.number.to_be_bytes();
+        let id = Hex {
+            octets: &octets[LONGEST_ID - self.width()..],
+        };
+        write!(f, "{id}")
     }
 }

@@ -2,6 +2,7 @@
 #![tactic(auto)]
 
 pub mod front;
+pub mod hex;
 pub mod id;
 pub mod laws;
 pub mod parties;

@@ -12,12 +12,7 @@ use wire::parties::{Plane, Role};
 // Integrity key sixteen octets 10, encryption key sixteen octets 20.
 pub(crate) fn protection(sender: Role, tag: TagLength, length: DataLength) -> Protection {
     Protection {
-        keys: Keyset {
-            integrity0: 0x1010_1010_1010_1010,
-            integrity1: 0x1010_1010_1010_1010,
-            encryption0: 0x2020_2020_2020_2020,
-            encryption1: 0x2020_2020_2020_2020,
-        },
+        keys: Keyset::of_octets(0x10, 0x20),
         sender,
         format: Format { tag, length },
     }

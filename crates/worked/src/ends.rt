@@ -4,6 +4,7 @@ use arguments::RawSettings;
 use commands::request::{Request, request_in};
 use endpoint::end::Endpoint;
 use endpoint::order::Heard;
+use keys::id::KeyId;
 use refusal::{Fault, Refusal};
 use std::test::Fail;
 use store::store::SessionStore;
@@ -13,70 +14,79 @@ use wire::parties::{Plane, Role};
 
 const ID: [u8; 2] = [0xF4, 0x69];
 
-// What is asked for, as the letter of a kind and two Key IDs, 0 where there is none.
-fn shown(request: Option<Request>) -> (char, u8, u8) {
-    match request {
-        Some(Request::Terminate) => ('t', 0, 0),
-        Some(Request::Add(new)) => ('a', new.number(), 0),
-        Some(Request::Update(new, old)) => ('u', new.number(), old.number()),
-        Some(Request::Delete(old)) => ('d', 0, old.number()),
-        Some(Request::Senseless) => ('s', 0, 0),
-        None => ('-', 0, 0),
-    }
-}
-
-// A manage-keys request with Key Management, and with Key Agreement of this length if `agreement` is some octet.
+// A manage-keys request with Key Management, and with Key Agreement of this length and octet.
 fn manage(management: u8, agreement: u8, length: u8) -> [u8; 42] {
     let mut content = [0u8; 42];
-    content[0] = 0x40;
-    content[1] = 9;
-    content[2] = 1;
-    content[3] = management;
-    content[4] = 5;
-    content[5] = length;
-    content[6] = agreement;
+    content[..7].copy_from_slice(&[0x40, 9, 1, management, 5, length, agreement]);
     content
 }
 
 #[test]
 fn manage_keys_requests(rt: HostRuntime) {
-    assert_eq!(rt; shown(request_in(&manage(0x41, 0x02, 36))), ('a', 2, 0));
-    assert_eq!(rt; shown(request_in(&manage(0xC1, 0x82, 36))), ('u', 2, 1));
     assert_eq!(rt;
-        shown(request_in(&manage(0x83, 0x02, 36)[0..4])),
-        ('d', 0, 3)
+        request_in(&manage(0x41, 0x02, 36)),
+        Some(Request::Add(KeyId::Two))
+    );
+    assert_eq!(rt;
+        request_in(&manage(0xC1, 0x82, 36)),
+        Some(Request::Update(KeyId::Two, KeyId::One))
+    );
+    assert_eq!(rt;
+        request_in(&manage(0x83, 0x02, 36)[0..4]),
+        Some(Request::Delete(KeyId::Three))
     );
     // Key Agreement behind a delete, none behind an update, a length that is not its own, an octet too few
-    assert_eq!(rt; shown(request_in(&manage(0x83, 0x02, 36))), ('s', 0, 0));
     assert_eq!(rt;
-        shown(request_in(&manage(0xC1, 0x02, 36)[0..4])),
-        ('s', 0, 0)
+        request_in(&manage(0x83, 0x02, 36)),
+        Some(Request::Senseless)
     );
-    assert_eq!(rt; shown(request_in(&manage(0x41, 0x02, 35))), ('s', 0, 0));
     assert_eq!(rt;
-        shown(request_in(&manage(0x41, 0x02, 36)[0..41])),
-        ('s', 0, 0)
+        request_in(&manage(0xC1, 0x02, 36)[0..4]),
+        Some(Request::Senseless)
+    );
+    assert_eq!(rt;
+        request_in(&manage(0x41, 0x02, 35)),
+        Some(Request::Senseless)
+    );
+    assert_eq!(rt;
+        request_in(&manage(0x41, 0x02, 36)[0..41]),
+        Some(Request::Senseless)
     );
 }
 
 #[test]
 fn senseless_bits(rt: HostRuntime) {
     // Key ID 0 in either option, a zero bit set in either, no action
-    assert_eq!(rt; shown(request_in(&manage(0x40, 0x02, 36))), ('s', 0, 0));
-    assert_eq!(rt; shown(request_in(&manage(0x41, 0x80, 36))), ('s', 0, 0));
-    assert_eq!(rt; shown(request_in(&manage(0x49, 0x02, 36))), ('s', 0, 0));
-    assert_eq!(rt; shown(request_in(&manage(0x41, 0x0A, 36))), ('s', 0, 0));
-    assert_eq!(rt; shown(request_in(&manage(0x01, 0x02, 36))), ('s', 0, 0));
+    assert_eq!(rt;
+        request_in(&manage(0x40, 0x02, 36)),
+        Some(Request::Senseless)
+    );
+    assert_eq!(rt;
+        request_in(&manage(0x41, 0x80, 36)),
+        Some(Request::Senseless)
+    );
+    assert_eq!(rt;
+        request_in(&manage(0x49, 0x02, 36)),
+        Some(Request::Senseless)
+    );
+    assert_eq!(rt;
+        request_in(&manage(0x41, 0x0A, 36)),
+        Some(Request::Senseless)
+    );
+    assert_eq!(rt;
+        request_in(&manage(0x01, 0x02, 36)),
+        Some(Request::Senseless)
+    );
 }
 
 #[test]
 fn other_contents(rt: HostRuntime) {
-    assert_eq!(rt; shown(request_in(&[0x30])), ('t', 0, 0));
-    assert_eq!(rt; shown(request_in(&[0x30, 1, 0])), ('t', 0, 0));
-    assert_eq!(rt; shown(request_in(&[0x40])), ('s', 0, 0));
-    assert_eq!(rt; shown(request_in(&[0x41])), ('-', 0, 0));
-    assert_eq!(rt; shown(request_in(&[0x99])), ('-', 0, 0));
-    assert_eq!(rt; shown(request_in(&[])), ('-', 0, 0));
+    assert_eq!(rt; request_in(&[0x30]), Some(Request::Terminate));
+    assert_eq!(rt; request_in(&[0x30, 1, 0]), Some(Request::Terminate));
+    assert_eq!(rt; request_in(&[0x40]), Some(Request::Senseless));
+    assert_eq!(rt; request_in(&[0x41]), None);
+    assert_eq!(rt; request_in(&[0x99]), None);
+    assert_eq!(rt; request_in(&[]), None);
 }
 
 fn begin<S: SessionStore, C: Suite>(end: &mut Endpoint<S, C>, tag: u64) -> Result<(), Fault> {
@@ -94,11 +104,8 @@ fn begin<S: SessionStore, C: Suite>(end: &mut Endpoint<S, C>, tag: u64) -> Resul
     end.begin(&ID, raw, 1, keyset)
 }
 
-fn order_of(heard: Heard) -> (char, u8, u8) {
-    match heard.order {
-        Some(order) => shown(Some(order.request())),
-        None => ('-', 0, 0),
-    }
+fn asked_by(heard: Heard) -> Option<Request> {
+    heard.order.map(|order| order.request())
 }
 
 #[test]
@@ -122,13 +129,16 @@ fn a_terminate_request_with_aes(rt: HostRuntime) -> Result<(), Fail> {
     let sealed = buffer;
     buffer[8] ^= 1;
     let altered = buffer;
-    match logger.hear(&mut buffer) {
-        Ok(_) => assert!(rt; false),
-        Err(fault) => assert_eq!(rt; fault, Fault::new(Refusal::TagDiffers, 5)),
-    }
+    assert_eq!(rt;
+        logger.hear(&mut buffer).err(),
+        Some(Fault::new(Refusal::TagDiffers, 5))
+    );
     assert_eq!(rt; buffer, altered);
     buffer = sealed;
-    assert_eq!(rt; order_of(logger.hear(&mut buffer)?), ('t', 0, 0));
+    assert_eq!(rt;
+        asked_by(logger.hear(&mut buffer)?),
+        Some(Request::Terminate)
+    );
     assert_eq!(rt; buffer[4], 0x30);
     Ok(())
 }

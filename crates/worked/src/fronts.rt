@@ -1,5 +1,5 @@
 // Fronts read and refused: each field at its place.
-use refusal::{Fault, Refusal};
+use refusal::{Fault, RangeError, Refusal};
 use std::process::Abort;
 use std::test::Fail;
 use wire::front::read_front;
@@ -54,21 +54,19 @@ fn ids_that_are_none(rt: HostRuntime) {
     refused(&rt, &[0x89, 0x01, 0x00], Refusal::NotASessionId, 2);
 }
 
+fn id(octets: &[u8]) -> Result<SessionId, RangeError> {
+    SessionId::try_from(octets)
+}
+
 #[test]
 fn ids_of_callers(rt: HostRuntime) {
-    assert_eq!(rt;
-        SessionId::from_octets(&[0xF4, 0x69]),
-        Some(SessionId { number: 0xF469 })
-    );
-    assert_eq!(rt;
-        SessionId::from_octets(&[0x80, 0x00]),
-        Some(SessionId { number: 0x8000 })
-    );
-    assert_eq!(rt; SessionId::from_octets(&[0x81, 0x82, 0x83, 0x84]), None);
-    assert_eq!(rt; SessionId::from_octets(&[0x01, 0x01]), None);
-    assert_eq!(rt; SessionId::from_octets(&[0x81]), None);
-    assert_eq!(rt; SessionId::from_octets(&[0x00]), None);
-    assert_eq!(rt; SessionId::from_octets(&[]), None);
+    assert_eq!(rt; id(&[0xF4, 0x69]), Ok(SessionId { number: 0xF469 }));
+    assert_eq!(rt; id(&[0x80, 0x00]), Ok(SessionId { number: 0x8000 }));
+    assert_eq!(rt; id(&[0x81, 0x82, 0x83, 0x84]), Err(RangeError));
+    assert_eq!(rt; id(&[0x01, 0x01]), Err(RangeError));
+    assert_eq!(rt; id(&[0x81]), Err(RangeError));
+    assert_eq!(rt; id(&[0x00]), Err(RangeError));
+    assert_eq!(rt; id(&[]), Err(RangeError));
 }
 
 #[test]

@@ -18,4 +18,6 @@ mod sessions;
 #[cfg(test)]
 mod suites;
 #[cfg(test)]
+mod transcripts;
+#[cfg(test)]
 mod vectors;

@@ -31,10 +31,7 @@ fn marked(leap: u32) -> Session {
 }
 
 fn mark<S: SessionStore>(store: &S, id: SessionId) -> Option<u32> {
-    match store.look(id) {
-        Some(session) => Some(session.settings.leap),
-        None => None,
-    }
+    store.look(id).map(|session| session.settings.leap)
 }
 
 fn no(refusal: Refusal) -> Result<(), Fault> {

@@ -1,7 +1,7 @@
 // Keys and counters of a session, case by case.
 use framing::format::{DataLength, Format, TagLength};
 use keys::id::KeyId;
-use keys::keys::{Change, Keys};
+use keys::keys::Keys;
 use keys::record::Slot;
 use refusal::{Fault, Refusal};
 use session::counters::{Counters, LAST_COUNTER};
@@ -33,24 +33,8 @@ pub(crate) fn begun() -> Session {
     Session::new(settings, KeyId::One, keyset(1))
 }
 
-fn done(rt: &impl Abort, change: Change<Session>) -> Result<Session, Fail> {
-    match change {
-        Change::Done(session) => Ok(session),
-        Change::Ignored => {
-            assert!(rt; false);
-            Ok(begun())
-        }
-    }
-}
-
-fn ignored(rt: &impl Abort, change: Change<Session>) -> Result<(), Fail> {
-    match change {
-        Change::Done(_) => {
-            assert!(rt; false);
-            Ok(())
-        },
-        Change::Ignored => Ok(()),
-    }
+fn done(rt: &impl Abort, change: Option<Session>) -> Session {
+    change.expect(rt, "a change")
 }
 
 // Which of the keys 1, 2 and 3 are held.
@@ -63,27 +47,13 @@ fn held(session: Session) -> (bool, bool, bool) {
     )
 }
 
-fn refused<T: Drop>(
-    rt: &impl Abort,
-    r: Result<T, Fault>,
-    refusal: Refusal,
-    place: usize,
-) -> Result<(), Fail> {
-    match r {
-        Ok(_) => {
-            assert!(rt; false);
-            Ok(())
-        },
-        Err(fault) => {
-            assert_eq!(rt; fault, Fault::new(refusal, place));
-            Ok(())
-        },
-    }
+fn refused<T: Drop>(rt: &impl Abort, r: Result<T, Fault>, refusal: Refusal, place: usize) {
+    assert_eq!(rt; r.err(), Some(Fault::new(refusal, place)));
 }
 
 #[test]
 fn old_key_stays_until_the_new_one_is_used(rt: HostRuntime) -> Result<(), Fail> {
-    let swapped = done(&rt, begun().swap(KeyId::Two, KeyId::One, keyset(2))?)?;
+    let swapped = done(&rt, begun().swap(KeyId::Two, KeyId::One, keyset(2))?);
     assert_eq!(rt; held(swapped), (true, true, false));
     assert_eq!(rt; swapped.keys.sending, Some(KeyId::One));
     let old = swapped.after_accepting(Plane::User, KeyId::One, 1);
@@ -97,17 +67,17 @@ fn old_key_stays_until_the_new_one_is_used(rt: HostRuntime) -> Result<(), Fail> 
 
 #[test]
 fn a_leaving_key_is_freed_with_the_key_it_waits_for(rt: HostRuntime) -> Result<(), Fail> {
-    let twice = done(&rt, begun().swap(KeyId::Two, KeyId::One, keyset(2))?)?;
-    let leaving = done(&rt, twice.swap(KeyId::Three, KeyId::Two, keyset(3))?)?;
+    let twice = done(&rt, begun().swap(KeyId::Two, KeyId::One, keyset(2))?);
+    let leaving = done(&rt, twice.swap(KeyId::Three, KeyId::Two, keyset(3))?);
     // 1 waits for 2, and 2 for 3
     let used = leaving.after_accepting(Plane::Control, KeyId::Three, 1);
     assert_eq!(rt; held(used), (true, false, true));
     let again = used.after_accepting(Plane::Control, KeyId::Two, 2);
     assert_eq!(rt; held(again), (true, false, true));
-    let dropped = done(&rt, leaving.drop_key(KeyId::Two))?;
+    let dropped = done(&rt, leaving.drop_key(KeyId::Two));
     assert_eq!(rt; held(dropped), (true, false, true));
-    ignored(&rt, dropped.drop_key(KeyId::Two))?;
-    let none = done(&rt, dropped.drop_key(KeyId::One))?;
+    assert!(rt; dropped.drop_key(KeyId::Two).is_none());
+    let none = done(&rt, dropped.drop_key(KeyId::One));
     assert_eq!(rt; none.keys.sending, None);
     Ok(())
 }
@@ -115,16 +85,16 @@ fn a_leaving_key_is_freed_with_the_key_it_waits_for(rt: HostRuntime) -> Result<(
 #[test]
 fn key_changes_refused(rt: HostRuntime) -> Result<(), Fail> {
     let two = begun().give(KeyId::Two, keyset(2))?;
-    refused(&rt, two.give(KeyId::Two, keyset(3)), Refusal::KeyInUse, 0)?;
-    refused(&rt, two.choose(KeyId::Three), Refusal::KeyNotHeld, 0)?;
+    refused(&rt, two.give(KeyId::Two, keyset(3)), Refusal::KeyInUse, 0);
+    refused(&rt, two.choose(KeyId::Three), Refusal::KeyNotHeld, 0);
     refused(
         &rt,
         two.swap(KeyId::Two, KeyId::One, keyset(3)),
         Refusal::KeyInUse,
         0,
-    )?;
-    ignored(&rt, two.swap(KeyId::Two, KeyId::Three, keyset(3))?)?;
-    let same = done(&rt, two.swap(KeyId::Two, KeyId::Two, keyset(3))?)?;
+    );
+    assert!(rt; two.swap(KeyId::Two, KeyId::Three, keyset(3))?.is_none());
+    let same = done(&rt, two.swap(KeyId::Two, KeyId::Two, keyset(3))?);
     assert_eq!(rt; held(same), (true, true, false));
     Ok(())
 }
@@ -138,26 +108,27 @@ fn counters_ahead_by_the_leap(rt: HostRuntime) -> Result<(), Fail> {
         session.admit(Plane::User, 1, 18),
         Refusal::CounterBeyondLeap,
         1,
-    )?;
+    );
     refused(
         &rt,
         session.admit(Plane::User, 1, 1),
         Refusal::CounterNotAbove,
         1,
-    )?;
+    );
     session.admit(Plane::Control, 1, 1)?;
     refused(
         &rt,
         session.admit(Plane::User, 2, 1),
         Refusal::KeyNotHeld,
         0,
-    )?;
+    );
     refused(
         &rt,
         session.admit(Plane::User, 0, 2),
         Refusal::KeyNotHeld,
         0,
-    )
+    );
+    Ok(())
 }
 
 #[test]
@@ -178,10 +149,11 @@ fn sealing_refused(rt: HostRuntime) -> Result<(), Fail> {
     let last = begun().after_sealing(Plane::User, LAST_COUNTER - 1);
     assert_eq!(rt; last.prepare(Plane::User)?.counter, LAST_COUNTER);
     let over = last.after_sealing(Plane::User, LAST_COUNTER);
-    refused(&rt, over.prepare(Plane::User), Refusal::CountersUsedUp, 0)?;
+    refused(&rt, over.prepare(Plane::User), Refusal::CountersUsedUp, 0);
     assert_eq!(rt; over.prepare(Plane::Control)?.counter, 1);
-    let none = done(&rt, over.drop_key(KeyId::One))?;
-    refused(&rt, none.prepare(Plane::User), Refusal::NoSendingKey, 0)
+    let none = done(&rt, over.drop_key(KeyId::One));
+    refused(&rt, none.prepare(Plane::User), Refusal::NoSendingKey, 0);
+    Ok(())
 }
 
 #[test]

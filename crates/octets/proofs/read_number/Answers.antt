@@ -8,14 +8,8 @@ use Rattle.octets.proofs.read_number.Goals as goal
 pub overflow_mul-c : goal.overflow_mul-c
 overflow_mul-c c = let r = room widest c.loop-x.x-index c.loop-x.c 0 (omega arith) c.loop-x.invariant.1 (omega arith) in record { fits = omega arith }
 
-pub overflow_add-c : goal.overflow_add-c
-overflow_add-c c = let r = room widest c.loop-x.x-index c.loop-x.c (get_or c.args.from.now c.loop-x.x-index 0) (omega arith) c.loop-x.invariant.1 (search rules) in record { fits = r.0 }
-
 pub loop-x-preserved : goal.loop-x-preserved
 loop-x-preserved c =
     let more = number_more 256 c.args.from.now c.loop-x.x-index c.loop-x-test.true in
     let r = room widest c.loop-x.x-index c.loop-x.c (get_or c.args.from.now c.loop-x.x-index 0) (omega arith) c.loop-x.invariant.1 (search rules) in
     (cc, r.1)
-
-pub returns : goal.returns
-returns c = c.loop-x.invariant.0 ∙ ap (number_from_digits 256) (take_all _ _ c.loop-x-test.false)

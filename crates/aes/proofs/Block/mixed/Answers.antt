@@ -5,5 +5,4 @@ use Rattle.aes.proofs.Block.mixed.Goals as goal
 
 pub returns : goal.returns
 unfolding sub_bytes shift_rows mix_columns block_octets
-returns c =
-    block_is _ _ _ _ _ _ _ _ c.mixed_column.ensures c.mixed_column-2.ensures c.mixed_column-3.ensures c.mixed_column-4.ensures
+returns c = block_is _ _ _ _ _ _ _ _ c.columns.ensures.a.1 c.columns.ensures.b.1 c.columns.ensures.c.1 c.columns.ensures.d.1

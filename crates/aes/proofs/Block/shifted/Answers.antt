@@ -5,5 +5,4 @@ use Rattle.aes.proofs.Block.shifted.Goals as goal
 
 pub returns : goal.returns
 unfolding sub_bytes shift_rows block_octets
-returns c =
-    block_is _ _ _ _ _ _ _ _ c.shifted_column.ensures c.shifted_column-2.ensures c.shifted_column-3.ensures c.shifted_column-4.ensures
+returns c = block_is _ _ _ _ _ _ _ _ c.columns.ensures.a.1 c.columns.ensures.b.1 c.columns.ensures.c.1 c.columns.ensures.d.1

@@ -5,8 +5,8 @@ use Rattle.bench_run.proofs.requests.begin.Goals as goal
 
 pub returns : goal.returns
 returns g c =
-    let before = meaning g.S.SessionStore.pairs g.S.SessionStore.capacity g.C.Suite.keystream g.C.Suite.tag_of g.C.Suite.size c.args.end.now in
-    let after = meaning g.S.SessionStore.pairs g.S.SessionStore.capacity g.C.Suite.keystream g.C.Suite.tag_of g.C.Suite.size c.begin.new.self in
+    let before = meaning g.C.Suite c.args.end.now in
+    let after = meaning g.C.Suite c.begin.new.self in
     let id = c.args.id.now in
     record {
       outcome = c.plain.ensures ∙ begin_outcome before after id c.args.fields _ c.keyset.ensures _ c.begin.ensures.value;

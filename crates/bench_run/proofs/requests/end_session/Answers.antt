@@ -6,8 +6,8 @@ use Rattle.bench_run.proofs.requests.end_session.Goals as goal
 
 pub returns : goal.returns
 returns g c =
-    let before = meaning g.S.SessionStore.pairs g.S.SessionStore.capacity g.C.Suite.keystream g.C.Suite.tag_of g.C.Suite.size c.args.end.now in
-    let after = meaning g.S.SessionStore.pairs g.S.SessionStore.capacity g.C.Suite.keystream g.C.Suite.tag_of g.C.Suite.size c.end.new.self in
+    let before = meaning g.C.Suite c.args.end.now in
+    let after = meaning g.C.Suite c.end.new.self in
     let id = c.args.id.now in
     record {
       outcome = c.plain.ensures ∙ ap plain c.end.ensures.value;

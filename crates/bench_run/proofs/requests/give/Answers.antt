@@ -5,8 +5,8 @@ use Rattle.bench_run.proofs.requests.give.Goals as goal
 
 pub returns : goal.returns
 returns g c =
-    let before = meaning g.S.SessionStore.pairs g.S.SessionStore.capacity g.C.Suite.keystream g.C.Suite.tag_of g.C.Suite.size c.args.end.now in
-    let after = meaning g.S.SessionStore.pairs g.S.SessionStore.capacity g.C.Suite.keystream g.C.Suite.tag_of g.C.Suite.size c.give.new.self in
+    let before = meaning g.C.Suite c.args.end.now in
+    let after = meaning g.C.Suite c.give.new.self in
     let id = c.args.id.now in
     record {
       outcome = c.plain.ensures ∙ give_outcome before after id c.args.key _ c.keyset.ensures _ c.give.ensures.value;

@@ -1,11 +1,8 @@
-use Rattle.std.proofs.Common.{get_or, ap, arith, length-set, take_all, rules}
+use Rattle.std.proofs.Common.{get_or, ap, arith, length-set, take_all}
 use Rattle.std.proofs.lemmas.List.FromFn.{fill_by_all}
 use Rattle.bench_suite.specs.Sums.{tag_octet, column, bench_size}
 use Rattle.bench_suite.proofs.Columns.{added}
 use Rattle.bench_suite.proofs.BenchSuite.tag.Goals as goal
-
-pub loop-i-init : goal.loop-i-init
-loop-i-init c = (search rules, λ j h. let e = c.tag_without_octets-tag.ensures j h in omega arith)
 
 pub loop-i-preserved : goal.loop-i-preserved
 loop-i-preserved c = (

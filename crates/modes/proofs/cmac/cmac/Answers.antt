@@ -20,6 +20,6 @@ returns g c =
     let before = c.saturating_sub-before.result / 16 in
     let at : c.loop-i.i ≡ before = omega arith in
     let state = rw at at c.loop-i.invariant in
-    let key = rw (← n) at c.subkey.ensures in
+    let key = rw c.len-len.ensures at c.subkey.ensures in
     cmac_is (g.C.BlockCipher.ciph c.args.cipher.now) text _ _ _ _ _ _ before (omega arith) state c.block_from-2.ensures key
     c.plus-last.ensures c.plus-2.ensures c.encrypt.ensures

@@ -7,4 +7,4 @@ pub overflow_cast-y : goal.overflow_cast-y
 overflow_cast-y c = record { fits = high_fits c.number_of-x.result c.number_of-x.type_inv }
 
 pub returns : goal.returns
-returns c = doubled_is (block_octets c.args.block) (block_octets c.block_of.result) c.number_of-x.result _ c.number_of-x.ensures c.number_of-x.type_inv refl c.block_of.ensures
+returns c = doubled_is (block_octets c.args.block) (block_octets c.of_halves.result) c.number_of-x.result _ c.number_of-x.ensures c.number_of-x.type_inv refl c.of_halves.ensures

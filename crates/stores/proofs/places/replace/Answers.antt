@@ -1,17 +1,31 @@
-use Rattle.std.proofs.Common.{ℕ, ◌<◌, ◌≤◌, length, get_or, set, Err, sym, ap, ◌∙◌, arith}
+use Rattle.std.proofs.Common.{ℕ, get_or, set, Err, sym, ap, ◌∙◌}
+use Rattle.std.proofs.lemmas.Result.{err_from_is_err_and}
 use Rattle.store.proofs.Finding.{put_absent}
-use Rattle.stores.specs.Places.{filled, first_of, holds_id, free_place}
-use Rattle.stores.proofs.Rows.{place_absent, renewed, place_put, need_there, need_absent}
+use Rattle.stores.specs.Places.{filled, holds_id, free_place}
+use Rattle.stores.proofs.Rows.{found_first, none_first, place_absent, renewed, place_put, need_there, need_absent}
 use Rattle.stores.proofs.places.replace.Goals as goal
 
-pub returns-then-i-places : goal.returns-then-i-places
-returns-then-i-places c =
+pub returns-in_err-i-clause-value : goal.returns-in_err-i-clause-value
+returns-in_err-i-clause-value c =
     let xs = c.args.places.now in
-    let h : length xs ≤ first_of (holds_id c.args.id) xs = omega arith in
-    record { value = ap Err c.new.ensures ∙ sym (need_absent c.args.id xs h); after = sym (put_absent c.args.id c.args.session (filled xs) (place_absent c.args.id xs h)) }
+    let none = none_first (holds_id c.args.id) xs (sym c.in_err-i.ensures.0) in
+    let p = err_from_is_err_and c.from_residual.result c.from_residual.ensures.1 in
+    rw (p.1, p.2) (ap Err c.in_err-i.ensures.1 ∙ sym (need_absent c.args.id xs none))
 
-pub returns : goal.returns
-returns c =
+pub returns-in_err-i-clause-after : goal.returns-in_err-i-clause-after
+returns-in_err-i-clause-after c =
     let xs = c.args.places.now in
-    let h : first_of (holds_id c.args.id) xs < length xs = omega arith in
-    record { value = sym (need_there c.args.id xs h); after = ap (λ (i : ℕ). filled (set xs i (renewed (get_or xs i free_place) c.args.session))) c.place_of-i.ensures.value ∙ place_put c.args.id c.args.session xs h }
+    let none = none_first (holds_id c.args.id) xs (sym c.in_err-i.ensures.0) in
+    sym (put_absent c.args.id c.args.session (filled xs) (place_absent c.args.id xs none))
+
+pub returns-clause-value : goal.returns-clause-value
+returns-clause-value c =
+    let xs = c.args.places.now in
+    let f = found_first (holds_id c.args.id) xs c.in_ok-i.i (sym c.in_ok-i.ensures) in
+    sym (need_there c.args.id xs f.0)
+
+pub returns-clause-after : goal.returns-clause-after
+returns-clause-after c =
+    let xs = c.args.places.now in
+    let f = found_first (holds_id c.args.id) xs c.in_ok-i.i (sym c.in_ok-i.ensures) in
+    ap (λ (i : ℕ). filled (set xs i (renewed (get_or xs i free_place) c.args.session))) f.1 ∙ place_put c.args.id c.args.session xs f.0

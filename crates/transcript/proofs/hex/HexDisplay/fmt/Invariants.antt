@@ -1,7 +1,0 @@
-use Rattle.std.proofs.Common.{take}
-use Rattle.std.specs.Fmt.{IsPlainFormatter, HasWritten}
-use Rattle.transcript.specs.Hex.{hex_of}
-use Rattle.transcript.proofs.hex.HexDisplay.fmt.Given as goal
-
-abbrev pub invariant-loop-x : goal.invariant-loop-x
-invariant-loop-x g l = IsPlainFormatter l.initial.f → HasWritten g.W.Write.write_str_gives l.initial.f (hex_of (take l.x-index l.self.octets.now)) l.f
