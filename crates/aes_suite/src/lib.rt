@@ -61,6 +61,10 @@ impl Suite for Aes {
     }
 
     fn encipher(&self, keys: Keyset, inputs: Inputs, part: &mut [u8]) {
+        // No key is expanded for nothing.
+        if part.is_empty() {
+            return;
+        }
         let schedule = Schedule::new(keys.encryption0, keys.encryption1);
         counter::encipher(&schedule, start_of(inputs), part);
     }

@@ -1,5 +1,5 @@
 -- What an end means: its role, its sessions, and the meaning of its suite. Assumes nothing.
-use Rattle.std.specs.Prelude.{ℕ, length, Ok, Err, Option, Result}
+use Rattle.std.specs.Prelude.{◌≡◌, ℕ, length, Ok, Err, Option, Result}
 use Rattle.std.specs.Option.{ok_or}
 use Rattle.refusal.specs.declared.Fault.{Fault}
 use Rattle.refusal.specs.declared.Refusal.TheVariants.{NoSession}
@@ -10,6 +10,7 @@ use Rattle.message.specs.Messages.{Keystream, Tag}
 use Rattle.session.specs.declared.session.Session.{Session}
 use Rattle.store.specs.Stores.{Pairs, lookup, replaced}
 use Rattle.suite.specs.declared.Suite.{Ghosts}
+use Rattle.store.specs.declared.store.SessionStore as stores
 
 -- an end as its callers see it
 pub record EndState (C : Type 0) : Type 0 where
@@ -19,7 +20,11 @@ pub record EndState (C : Type 0) : Type 0 where
   pub room : ℕ
   pub suite : C
 
--- the same, with what its suite means in the place of the suite
+-- the sessions and the room are those of some store of this type
+abbrev pub HeldInStore : {S C : Type 0} → stores.Ghosts S → EndState C → Type 0
+HeldInStore {S} of_type e = (store : S) × (e.pairs ≡ of_type.pairs store) × (e.room ≡ of_type.capacity store)
+
+-- an end with what its suite means in the place of the suite
 pub record EndMeaning : Type 0 where
   pub role : Role
   -- the sessions, and how many there is room for

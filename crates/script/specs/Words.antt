@@ -32,3 +32,7 @@ field_count Command = 4
 field_count Report = 3
 field_count End = 3
 field_count Hear = 3
+
+-- no line has more
+abbrev pub most_fields : ℕ
+most_fields = 9

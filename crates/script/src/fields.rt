@@ -1,12 +1,50 @@
 // The fields of a line.
-ghost use Rattle.std.specs.Prelude.{◌≡◌, IfOk, map};
+ghost use Rattle.std.specs.Prelude.{◌≡◌, ◌<◌, length, map, MatchOption};
 ghost use Rattle.script.specs.Pieces.{fields_of};
+ghost use Rattle.script.specs.Words.{most_fields};
 
-use std::alloc::{AllocError, Global};
+use std::marker::Model;
 
-// The fields of a line, which stand between commas.
-pub fn fields_of(heap: Global, line: &[u8]) -> Result<Vec<&[u8]>, AllocError>
-    ensures { IfOk result (λ fields. map (λ field. field.now) fields.items ≡ fields_of line.now) }
-{
-    line.split(|x| *x == b',').collect(heap)
+// The most fields that a line has.
+const MOST_FIELDS: usize = 9;
+
+// The fields of a line that has no more of them than lines may have. They stand in a row of its own, so that no memory is asked for.
+#[derive(Drop)]
+pub struct Fields<'a> {
+    row: [&'a [u8]; MOST_FIELDS],
+    count: usize,
+}
+
+impl<'a> Model for Fields<'a> {
+    ghost use Rattle.std.specs.Prelude.{ℕ, ◌≤◌, List, length, map, take};
+
+    ghost Value = { List (List ℕ) };
+
+    ghost view = { λ f. map (λ field. field.now) (take f.count f.row) };
+
+    ghost invariant = { λ f. f.count ≤ length f.row };
+}
+
+impl<'a> Fields<'a> {
+    // The fields of a line, which stand between commas; none where there are too many.
+    pub fn of(line: &'a [u8]) -> Option<Fields<'a>>
+        ensures { MatchOption result (most_fields < length (fields_of line.now)) (λ fields. fields ≡ fields_of line.now) }
+    {
+        let mut row = [line; MOST_FIELDS];
+        let mut count = 0;
+        for field in line.split(|x| *x == b',') {
+            if count == MOST_FIELDS {
+                return None;
+            }
+            row[count] = field;
+            count += 1;
+        }
+        Some(Fields { row, count })
+    }
+
+    pub fn as_slice(&self) -> &[&'a [u8]]
+        ensures { map (λ field. field.now) result.now ≡ self.now }
+    {
+        &self.row[..self.count]
+    }
 }

@@ -6,7 +6,7 @@ ghost use Rattle.script.specs.Requests.{key_read, begin_read, request_with, requ
 ghost use Rattle.script.specs.Words.{field_count};
 
 use crate::digits::{read_number, read_octet, read_octets};
-use crate::fields::fields_of;
+use crate::fields::Fields;
 use crate::words::{Side, Verb, side_of, verb_of};
 use std::alloc::{AllocError, Global};
 
@@ -135,10 +135,13 @@ pub fn read_line(heap: Global, line: &[u8]) -> Result<Option<Line>, AllocError>
     if line.len() > LONGEST_LINE {
         return Ok(None);
     }
-    let fields = fields_of(heap, line)?;
+    let Some(fields) = Fields::of(line) else {
+        return Ok(None);
+    };
+    let fields = fields.as_slice();
     let Some(side) = fields.first().and_then(|word| side_of(word)) else {
         return Ok(None);
     };
-    let request = read_request(heap, &fields)?;
+    let request = read_request(heap, fields)?;
     Ok(request.map(|request| Line { side, request }))
 }

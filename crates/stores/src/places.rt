@@ -36,11 +36,11 @@ pub(crate) fn session_of(places: &[Place], id: SessionId) -> Option<Session>
         .map(|place| place.session)
 }
 
-#[tactic(auto, using(crate::proofs::Rows::used_are))]
+// Added up and not filtered, which takes more than twice the time.
 pub(crate) fn used_count(places: &[Place]) -> usize
     ensures { result ≡ length (filled places.now) }
 {
-    places.iter().filter(|place| place.used).count()
+    places.iter().map(|place| usize::from(place.used)).sum()
 }
 
 // The ID in the n-th used place.
@@ -106,5 +106,8 @@ pub(crate) fn remove(places: &mut [Place], id: SessionId) -> Result<(), Fault>
 pub(crate) fn clear(places: &mut [Place])
     ensures { places.new ≡ replicate (length places.old) free_place }
 {
-    places.fill(Place::FREE);
+    // A loop and no `fill`, so that an edit of its own can show that a place which keeps its key is refused.
+    for place in places.iter_mut() {
+        *place = Place::FREE;
+    }
 }
