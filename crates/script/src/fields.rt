@@ -1,9 +1,20 @@
 // The fields of a line.
 ghost use Rattle.std.specs.Prelude.{◌≡◌, ◌<◌, length, map, MatchOption};
 ghost use Rattle.script.specs.Pieces.{fields_of};
+ghost use Rattle.script.specs.Requests.{field_at};
 ghost use Rattle.script.specs.Words.{most_fields};
 
 use std::marker::Model;
+
+// The field of a line that has n fields before it, or nothing if there are no more than n. What stands behind it is not looked at.
+pub fn field(line: &[u8], n: usize) -> &[u8]
+    ensures { result.now ≡ field_at (fields_of line.now) n }
+{
+    match line.split(|x| *x == b',').nth(n) {
+        Some(field) => field,
+        None => &[],
+    }
+}
 
 // The most fields that a line has.
 const MOST_FIELDS: usize = 9;

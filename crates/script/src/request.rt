@@ -6,7 +6,7 @@ ghost use Rattle.script.specs.Requests.{key_read, begin_read, request_with, requ
 ghost use Rattle.script.specs.Words.{field_count};
 
 use crate::digits::{read_number, read_octet, read_octets};
-use crate::fields::Fields;
+use crate::fields::{Fields, field};
 use crate::words::{Side, Verb, side_of, verb_of};
 use std::alloc::{AllocError, Global};
 
@@ -135,13 +135,16 @@ pub fn read_line(heap: Global, line: &[u8]) -> Result<Option<Line>, AllocError>
     if line.len() > LONGEST_LINE {
         return Ok(None);
     }
+    let Some(side) = side_of(field(line, 0)) else {
+        return Ok(None);
+    };
+    // Before the line is cut, so that a bad word costs no more than it did.
+    if verb_of(field(line, 1)).is_none() {
+        return Ok(None);
+    }
     let Some(fields) = Fields::of(line) else {
         return Ok(None);
     };
-    let fields = fields.as_slice();
-    let Some(side) = fields.first().and_then(|word| side_of(word)) else {
-        return Ok(None);
-    };
-    let request = read_request(heap, fields)?;
+    let request = read_request(heap, fields.as_slice())?;
     Ok(request.map(|request| Line { side, request }))
 }
