@@ -33,6 +33,6 @@ field_count Report = 3
 field_count End = 3
 field_count Hear = 3
 
--- no line has more
+-- no line has more than begin
 abbrev pub most_fields : ℕ
-most_fields = 9
+most_fields = field_count Begin

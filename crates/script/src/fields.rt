@@ -10,16 +10,13 @@ use std::marker::Model;
 pub fn field(line: &[u8], n: usize) -> &[u8]
     ensures { result.now ≡ field_at (fields_of line.now) n }
 {
-    match line.split(|x| *x == b',').nth(n) {
-        Some(field) => field,
-        None => &[],
-    }
+    line.split(|x| *x == b',').nth(n).unwrap_or(&[])
 }
 
 // The most fields that a line has.
 const MOST_FIELDS: usize = 9;
 
-// The fields of a line that has no more of them than lines may have. They stand in a row of its own, so that no memory is asked for.
+// The fields of a line that has no more of them than lines may have. They stand in a row on the stack, so that no memory is asked for.
 #[derive(Drop)]
 pub struct Fields<'a> {
     row: [&'a [u8]; MOST_FIELDS],

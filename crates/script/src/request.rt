@@ -2,6 +2,7 @@
 ghost use Rattle.std.specs.Prelude.{◌≡◌, [], ◌∷◌, length, map, IfOk};
 ghost use Rattle.std.specs.Option.{option_map};
 ghost use Rattle.script.specs.Asked.{asked, asked_line};
+ghost use Rattle.script.specs.Pieces.{fields_of};
 ghost use Rattle.script.specs.Requests.{key_read, begin_read, request_with, request_read, line_read};
 ghost use Rattle.script.specs.Words.{field_count};
 
@@ -109,13 +110,18 @@ fn request_with(
     }
 }
 
-fn read_request(heap: Global, fields: &[&[u8]]) -> Result<Option<Request>, AllocError>
-    ensures { IfOk result (λ o. option_map asked o ≡ request_read (map (λ field. field.now) fields.now)) }
+// The verb is looked at before the line is cut, so that a line with a bad one is not read to its end.
+fn read_request(heap: Global, line: &[u8]) -> Result<Option<Request>, AllocError>
+    ensures { IfOk result (λ o. option_map asked o ≡ request_read (fields_of line.now)) }
 {
-    let [_, verb, first, ..] = fields else {
+    let Some(verb) = verb_of(field(line, 1)) else {
         return Ok(None);
     };
-    let Some(verb) = verb_of(verb) else {
+    let Some(fields) = Fields::of(line) else {
+        return Ok(None);
+    };
+    let fields = fields.as_slice();
+    let [_, _, first, ..] = fields else {
         return Ok(None);
     };
     if fields.len() != verb.field_count() {
@@ -138,13 +144,6 @@ pub fn read_line(heap: Global, line: &[u8]) -> Result<Option<Line>, AllocError>
     let Some(side) = side_of(field(line, 0)) else {
         return Ok(None);
     };
-    // Before the line is cut, so that a bad word costs no more than it did.
-    if verb_of(field(line, 1)).is_none() {
-        return Ok(None);
-    }
-    let Some(fields) = Fields::of(line) else {
-        return Ok(None);
-    };
-    let request = read_request(heap, fields.as_slice())?;
+    let request = read_request(heap, line)?;
     Ok(request.map(|request| Line { side, request }))
 }
